@@ -1,0 +1,4 @@
+//! The words that all layers of the clearing share: numbers with their ranges, and faults.
+
+pub mod fault;
+pub mod ranges;
