@@ -1,0 +1,5 @@
+pub mod Letters
+pub mod Means
+pub mod Prices
+pub mod Rules
+pub mod Tally
