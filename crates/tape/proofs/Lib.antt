@@ -1,0 +1,4 @@
+pub mod Cuts
+pub mod Days
+pub mod Named
+pub mod Steps

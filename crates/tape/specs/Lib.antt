@@ -1,0 +1,4 @@
+pub mod Lines
+pub mod Names
+pub mod Tapes
+pub mod Words
