@@ -1,0 +1,103 @@
+-- One turn of each loop over the accounts.
+use mathlib.Core.Path.{_≡_, refl, sym, ap, _∙_}
+use mathlib.Core.Bool.{Bool, true, false, cond}
+use mathlib.Core.List.{List, [], _∷_}
+use Prim.Native.Nat.{ℕ, zero, suc, _+_, _-_, _*_, _≤_, _<_, zero-le}
+use native.Mathlib.Nat.{mul-add, mul-le-mul-left, mul-one}
+use native.Mathlib.Numerals.{add-one}
+use native.Mathlib.Omega.{arith}
+use lib.Dec.{eqb}
+use lib.IntN.{ℤ, pos, negsuc, _+ℤ_, natAbs}
+use lib.ListN.{length, getD, set, take, drop}
+use mir.Syntax.{w64}
+use mir.Val.{SFits, ofZ}
+use Rattle.std.proofs.shelf.Lists.{drop-more, set-getD}
+use Rattle.std.proofs.shelf.Signed.{ints}
+use Rattle.std.proofs.shelf.Tests.{ne-eqb, cond-true, cond-false, le-ltb, and-from}
+use Rattle.std.specs.Options.{isSome}
+use Rattle.std.specs.Results.{isOk}
+use Rattle.std.specs.declared.option.Option.{Option}
+use Rattle.std.specs.declared.option.Option.the-variants.{Some, None}
+use Rattle.std.specs.declared.result.Result.{Result}
+use Rattle.std.specs.declared.result.Result.the-variants.{Ok}
+use Rattle.terms.specs.declared.fault.Fault.{Fault}
+use Rattle.book.specs.Balances.{in-bounds, new-balance, of-account}
+use Rattle.book.specs.Postings.{post-answer, posted-to, added, postings, lowest-out}
+use Rattle.book.proofs.Accounts.{account-at, of-account-at}
+use Rattle.book.proofs.Added.{getD-added-front, added-more}
+use Rattle.book.proofs.Bounds.{new-balance-some}
+use Rattle.book.proofs.Reasons.{none-inside}
+
+-- ---- an amount's bits, and whether it is 0
+
+pub nonzero : (z : ℤ) → (ofZ w64 z ≡ 0 → ⊥) → eqb (natAbs z) 0 ≡ false
+nonzero (pos n) h = ne-eqb n 0 h
+nonzero (negsuc n) h = ne-eqb (suc n) 0 (λ e. omega arith)
+
+pub is-zero : (z : ℤ) → SFits w64 z → ofZ w64 z ≡ 0 → z ≡ pos 0
+is-zero (pos n) f e = ap pos e
+is-zero (negsuc n) f e = absurd (omega (arith, f .sfits))
+
+-- ---- the test
+
+pub lowest-more : (n : ℕ) (bs ms : List ℤ) (i : ℕ) → i < length bs → i < length ms → lowest-out n (drop i bs) (drop i ms) ≡ cond (in-bounds (getD bs i (pos 0) +ℤ getD ms i (pos 0))) (lowest-out (n + 1) (drop (i + 1) bs) (drop (i + 1) ms)) (Some n)
+lowest-more n bs ms i h k = rw (drop-more bs i (pos 0) h, drop-more ms i (pos 0) k) refl
+
+-- what the test of account i + 1 tells
+pub tested : (bs : List ℤ) (i : ℕ) (a b : ℤ) (o : Option ℤ) (t : Bool) → i < 64 → b ≡ of-account bs (i + 1) → o ≡ new-balance b a → isSome o ≡ t → in-bounds (getD bs i (pos 0) +ℤ a) ≡ t
+tested bs i a b o t h eb eo et = sym (ap (λ z. in-bounds (z +ℤ a)) (eb ∙ of-account-at bs i h)) ∙ sym (new-balance-some b a) ∙ sym (ap isSome eo) ∙ et
+
+-- ---- the count
+
+postings-more : (ms : List ℤ) (i : ℕ) → i < length ms → postings (take (suc i) ms) ≡ postings (take i ms) + cond (eqb (natAbs (getD ms i (pos 0))) 0) 0 1
+postings-more [] i h = absurd (omega arith)
+postings-more (a ∷ ms) zero h = grind arith
+postings-more (a ∷ ms) (suc i) h = let more = postings-more ms i (omega arith) in grind arith
+
+postings-front : (ms : List ℤ) (i : ℕ) → postings (take i ms) ≤ postings ms
+postings-front ms zero = zero-le
+postings-front [] (suc i) = zero-le
+postings-front (a ∷ ms) (suc i) = let less = postings-front ms i in grind arith
+
+-- ---- the posting: the first i amounts are added to what the book held, and their lines taken
+
+pub record Made (bs₀ : List ℤ) (left₀ cost : ℕ) (ms : List ℤ) (i : ℕ) (bs : List ℤ) (left : ℕ) : Type 0 where
+  pub added-so-far : bs ≡ added bs₀ (take i ms)
+  pub taken-so-far : left + cost * postings (take i ms) ≡ left₀
+
+module _ (bs₀ ms : List ℤ) (left₀ cost : ℕ) (long : length ms ≡ 64) (i : ℕ) (h : i < 64) where
+  -- a turn with nothing to post
+  pub passed : (bs : List ℤ) (left : ℕ) → Made bs₀ left₀ cost ms i bs left → getD ms i (pos 0) ≡ pos 0 → Made bs₀ left₀ cost ms (i + 1) bs left
+  passed bs left m z =
+      let within : i < length ms = omega arith in
+      let count : postings (take (i + 1) ms) ≡ postings (take i ms) = ap (λ k. postings (take k ms)) (add-one i) ∙ postings-more ms i within ∙ ap (λ a. postings (take i ms) + cond (eqb (natAbs a) 0) 0 1) z ∙ omega arith in
+      let plus : getD bs₀ i (pos 0) +ℤ getD ms i (pos 0) ≡ getD bs₀ i (pos 0) = ap (λ a. getD bs₀ i (pos 0) +ℤ a) z ∙ omega (arith, ints) in
+      let same : added bs₀ (take (i + 1) ms) ≡ added bs₀ (take i ms) = ap (λ k. added bs₀ (take k ms)) (add-one i) ∙ added-more bs₀ ms i within ∙ ap (set (added bs₀ (take i ms)) i) (plus ∙ sym (getD-added-front bs₀ ms i)) ∙ set-getD (added bs₀ (take i ms)) i (pos 0) in
+      record { added-so-far = m .added-so-far ∙ sym same; taken-so-far = ap (λ k. left + cost * k) count ∙ m .taken-so-far }
+
+  -- a turn with a posting, which is never refused
+  pub posted : length bs₀ ≡ 64 → lowest-out 1 bs₀ ms ≡ None → cost * postings ms ≤ left₀
+      → (bs bs′ : List ℤ) (left left′ : ℕ) (r : Result (Unit {0}) Fault) → Made bs₀ left₀ cost ms i bs left
+      → eqb (natAbs (getD ms i (pos 0))) 0 ≡ false
+      → r ≡ post-answer bs left cost (i + 1) (getD ms i (pos 0)) → bs′ ≡ cond (isOk r) (posted-to bs (i + 1) (getD ms i (pos 0))) bs → left′ ≡ cond (isOk r) (left - cost) left
+      → Made bs₀ left₀ cost ms (i + 1) bs′ left′
+  posted long₀ none paid bs bs′ left left′ r m ne er ea es =
+      let a = getD ms i (pos 0) in
+      let p = postings (take i ms) in
+      let eb = m .added-so-far in
+      let el = m .taken-so-far in
+      let within : i < length ms = omega arith in
+      let at : getD bs i (pos 0) ≡ getD bs₀ i (pos 0) = ap (λ l. getD l i (pos 0)) eb ∙ getD-added-front bs₀ ms i in
+      let good : in-bounds (of-account bs (i + 1) +ℤ a) ≡ true = ap (λ z. in-bounds (z +ℤ a)) (of-account-at bs i h ∙ at) ∙ none-inside 1 bs₀ ms i none (omega arith) within in
+      let count : postings (take (i + 1) ms) ≡ p + 1 = ap (λ k. postings (take k ms)) (add-one i) ∙ postings-more ms i within ∙ ap (λ b. p + cond b 0 1) ne in
+      let times : cost * postings (take (i + 1) ms) ≡ cost * p + cost = ap (λ k. cost * k) count ∙ mul-add cost p 1 ∙ ap (λ k. cost * p + k) (mul-one cost) in
+      let most : cost * postings (take (i + 1) ms) ≤ cost * postings ms = mul-le-mul-left cost (postings-front ms (i + 1)) in
+      let enough : cost ≤ left = omega arith in
+      let ok : r ≡ Ok tt = er ∙ cond-true _ _ _ (and-from _ _ (account-at i h) good) ∙ cond-false _ _ _ (le-ltb left cost enough) in
+      let back : i + 1 - 1 ≡ i = omega arith in
+      let made : bs′ ≡ set bs i (getD bs i (pos 0) +ℤ a) = ea ∙ ap (λ x. cond (isOk x) (posted-to bs (i + 1) a) bs) ok ∙ ap (λ k. set bs k (getD bs k (pos 0) +ℤ a)) back in
+      let spent : left′ ≡ left - cost = es ∙ ap (λ x. cond (isOk x) (left - cost) left) ok in
+      record {
+        added-so-far = made ∙ ap (λ z. set bs i (z +ℤ a)) at ∙ ap (λ l. set l i (getD bs₀ i (pos 0) +ℤ a)) eb ∙ sym (added-more bs₀ ms i within) ∙ ap (λ k. added bs₀ (take k ms)) (sym (add-one i));
+        taken-so-far = omega arith;
+      }
