@@ -3,15 +3,14 @@ use mathlib.Core.Path.{_≡_, refl, ap, subst, _∙_}
 use mathlib.Core.Bool.{true, false}
 use mathlib.Core.List.{List}
 use mathlib.Core.Logic.{inl, inr}
-use Prim.Native.Nat.{ℕ, zero, suc, _+_, _-_, _≤_, _<_}
+use Prim.Native.Nat.{ℕ, zero, suc, _+_, _-_, _<_}
 use native.Mathlib.Numerals.{add-one}
 use native.Mathlib.Omega.{arith}
 use lib.IntN.{ℤ, pos}
-use lib.ListN.{length, getD, replicate}
-use Rattle.std.proofs.shelf.Lists.{length-replicate}
+use lib.ListN.{getD}
 use Rattle.std.proofs.shelf.Tests.{cases-bool, cond-true, cond-false, leb-true, and-parts}
 use Rattle.std.proofs.shelf.Ways.{tells}
-use Rattle.book.specs.Balances.{is-account, of-account, zeros}
+use Rattle.book.specs.Balances.{is-account, of-account}
 
 pub account-at : (i : ℕ) → i < 64 → is-account (i + 1) ≡ true
 account-at i h = grind (arith, tells)
@@ -32,19 +31,3 @@ by-account P here none (suc i) =
       | inl h ↦ let l : i < 64 = omega (arith, leb-true (suc i) 64 (and-parts _ _ h .1)) in subst P (add-one i) (here i l)
       | inr h ↦ none (suc i) h
     ]
-
-getD-replicate-zero : (n k : ℕ) → getD (replicate n (pos 0)) k (pos 0) ≡ pos 0
-getD-replicate-zero zero k = refl
-getD-replicate-zero (suc n) zero = refl
-getD-replicate-zero (suc n) (suc k) = getD-replicate-zero n k
-
-pub length-zeros : length zeros ≡ 64
-unfolding zeros
-length-zeros = length-replicate 64 (pos 0)
-
-pub getD-zeros : (k : ℕ) → getD zeros k (pos 0) ≡ pos 0
-unfolding zeros
-getD-zeros k = getD-replicate-zero 64 k
-
-pub of-account-zeros : (n : ℕ) → of-account zeros n ≡ pos 0
-of-account-zeros n = by-account (λ m. of-account zeros m ≡ pos 0) (λ i h. of-account-at zeros i h ∙ getD-zeros i) (of-no-account zeros) n

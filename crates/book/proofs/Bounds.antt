@@ -5,18 +5,19 @@ use mathlib.Core.List.{List, [], _∷_}
 use Prim.Native.Nat.{ℕ, zero, suc}
 use native.Mathlib.Omega.{arith}
 use lib.IntN.{ℤ, pos, _+ℤ_}
-use lib.ListN.{getD, set}
+use lib.ListN.{getD, set, replicate}
 use Rattle.std.specs.Options.{isSome}
 use Rattle.std.specs.declared.option.Option.the-variants.{Some}
-use Rattle.book.specs.Balances.{in-bounds, new-balance, zeros}
-use Rattle.book.proofs.Accounts.{getD-zeros}
+use Rattle.book.specs.Balances.{in-bounds, new-balance}
 
 -- each balance of a list is within bounds
 abbrev pub Bounded : List ℤ → Type 0
 Bounded xs = (k : ℕ) → in-bounds (getD xs k (pos 0)) ≡ true
 
-pub zeros-bounded : Bounded zeros
-zeros-bounded k = ap in-bounds (getD-zeros k)
+pub replicate-bounded : (n : ℕ) (z : ℤ) → in-bounds z ≡ true → Bounded (replicate n z)
+replicate-bounded zero z h k = refl
+replicate-bounded (suc n) z h zero = h
+replicate-bounded (suc n) z h (suc k) = replicate-bounded n z h k
 
 pub set-bounded : (xs : List ℤ) (i : ℕ) (z : ℤ) → Bounded xs → in-bounds z ≡ true → Bounded (set xs i z)
 set-bounded [] i z s h k = s k

@@ -1,6 +1,6 @@
 -- One turn of each loop over the accounts.
 use mathlib.Core.Path.{_≡_, refl, sym, ap, _∙_}
-use mathlib.Core.Bool.{Bool, true, false, cond}
+use mathlib.Core.Bool.{true, false, cond}
 use mathlib.Core.List.{List, [], _∷_}
 use Prim.Native.Nat.{ℕ, zero, suc, _+_, _-_, _*_, _≤_, _<_, zero-le}
 use native.Mathlib.Nat.{mul-add, mul-le-mul-left, mul-one}
@@ -40,12 +40,15 @@ is-zero (negsuc n) f e = absurd (omega (arith, f .sfits))
 
 -- ---- the test
 
-pub lowest-more : (n : ℕ) (bs ms : List ℤ) (i : ℕ) → i < length bs → i < length ms → lowest-out n (drop i bs) (drop i ms) ≡ cond (in-bounds (getD bs i (pos 0) +ℤ getD ms i (pos 0))) (lowest-out (n + 1) (drop (i + 1) bs) (drop (i + 1) ms)) (Some n)
-lowest-more n bs ms i h k = rw (drop-more bs i (pos 0) h, drop-more ms i (pos 0) k) refl
-
--- what the test of account i + 1 tells
-pub tested : (bs : List ℤ) (i : ℕ) (a b : ℤ) (o : Option ℤ) (t : Bool) → i < 64 → b ≡ of-account bs (i + 1) → o ≡ new-balance b a → isSome o ≡ t → in-bounds (getD bs i (pos 0) +ℤ a) ≡ t
-tested bs i a b o t h eb eo et = sym (ap (λ z. in-bounds (z +ℤ a)) (eb ∙ of-account-at bs i h)) ∙ sym (new-balance-some b a) ∙ sym (ap isSome eo) ∙ et
+-- what account i + 1 tells, with its balance b and the balance o after its amount
+pub lowest-more : (bs ms : List ℤ) (i : ℕ) (b : ℤ) (o : Option ℤ) → length bs ≡ 64 → length ms ≡ 64 → i < 64 → b ≡ of-account bs (i + 1) → o ≡ new-balance b (getD ms i (pos 0))
+    → lowest-out (i + 1) (drop i bs) (drop i ms) ≡ cond (isSome o) (lowest-out (i + 1 + 1) (drop (i + 1) bs) (drop (i + 1) ms)) (Some (i + 1))
+lowest-more bs ms i b o long all h eb eo =
+    let a = getD ms i (pos 0) in
+    let hb : i < length bs = omega arith in
+    let hm : i < length ms = omega arith in
+    let told : in-bounds (getD bs i (pos 0) +ℤ a) ≡ isSome o = ap (λ z. in-bounds (z +ℤ a)) (sym (eb ∙ of-account-at bs i h)) ∙ sym (ap isSome eo ∙ new-balance-some b a) in
+    rw (drop-more bs i (pos 0) hb, drop-more ms i (pos 0) hm) (ap (λ t. cond t (lowest-out (i + 1 + 1) (drop (i + 1) bs) (drop (i + 1) ms)) (Some (i + 1))) told)
 
 -- ---- the count
 
@@ -75,29 +78,38 @@ module _ (bs₀ ms : List ℤ) (left₀ cost : ℕ) (long : length ms ≡ 64) (i
       let same : added bs₀ (take (i + 1) ms) ≡ added bs₀ (take i ms) = ap (λ k. added bs₀ (take k ms)) (add-one i) ∙ added-more bs₀ ms i within ∙ ap (set (added bs₀ (take i ms)) i) (plus ∙ sym (getD-added-front bs₀ ms i)) ∙ set-getD (added bs₀ (take i ms)) i (pos 0) in
       record { added-so-far = m .added-so-far ∙ sym same; taken-so-far = ap (λ k. left + cost * k) count ∙ m .taken-so-far }
 
-  -- a turn with a posting, which is never refused
-  pub posted : length bs₀ ≡ 64 → lowest-out 1 bs₀ ms ≡ None → cost * postings ms ≤ left₀
-      → (bs bs′ : List ℤ) (left left′ : ℕ) (r : Result (Unit {0}) Fault) → Made bs₀ left₀ cost ms i bs left
-      → eqb (natAbs (getD ms i (pos 0))) 0 ≡ false
-      → r ≡ post-answer bs left cost (i + 1) (getD ms i (pos 0)) → bs′ ≡ cond (isOk r) (posted-to bs (i + 1) (getD ms i (pos 0))) bs → left′ ≡ cond (isOk r) (left - cost) left
-      → Made bs₀ left₀ cost ms (i + 1) bs′ left′
-  posted long₀ none paid bs bs′ left left′ r m ne er ea es =
-      let a = getD ms i (pos 0) in
-      let p = postings (take i ms) in
-      let eb = m .added-so-far in
-      let el = m .taken-so-far in
-      let within : i < length ms = omega arith in
-      let at : getD bs i (pos 0) ≡ getD bs₀ i (pos 0) = ap (λ l. getD l i (pos 0)) eb ∙ getD-added-front bs₀ ms i in
-      let good : in-bounds (of-account bs (i + 1) +ℤ a) ≡ true = ap (λ z. in-bounds (z +ℤ a)) (of-account-at bs i h ∙ at) ∙ none-inside 1 bs₀ ms i none (omega arith) within in
-      let count : postings (take (i + 1) ms) ≡ p + 1 = ap (λ k. postings (take k ms)) (add-one i) ∙ postings-more ms i within ∙ ap (λ b. p + cond b 0 1) ne in
-      let times : cost * postings (take (i + 1) ms) ≡ cost * p + cost = ap (λ k. cost * k) count ∙ mul-add cost p 1 ∙ ap (λ k. cost * p + k) (mul-one cost) in
-      let most : cost * postings (take (i + 1) ms) ≤ cost * postings ms = mul-le-mul-left cost (postings-front ms (i + 1)) in
-      let enough : cost ≤ left = omega arith in
-      let ok : r ≡ Ok tt = er ∙ cond-true _ _ _ (and-from _ _ (account-at i h) good) ∙ cond-false _ _ _ (le-ltb left cost enough) in
-      let back : i + 1 - 1 ≡ i = omega arith in
-      let made : bs′ ≡ set bs i (getD bs i (pos 0) +ℤ a) = ea ∙ ap (λ x. cond (isOk x) (posted-to bs (i + 1) a) bs) ok ∙ ap (λ k. set bs k (getD bs k (pos 0) +ℤ a)) back in
-      let spent : left′ ≡ left - cost = es ∙ ap (λ x. cond (isOk x) (left - cost) left) ok in
-      record {
-        added-so-far = made ∙ ap (λ z. set bs i (z +ℤ a)) at ∙ ap (λ l. set l i (getD bs₀ i (pos 0) +ℤ a)) eb ∙ sym (added-more bs₀ ms i within) ∙ ap (λ k. added bs₀ (take k ms)) (sym (add-one i));
-        taken-so-far = omega arith;
-      }
+  module _ (long₀ : length bs₀ ≡ 64) (none : lowest-out 1 bs₀ ms ≡ None) (paid : cost * postings ms ≤ left₀) (bs : List ℤ) (left : ℕ) (m : Made bs₀ left₀ cost ms i bs left) (due : eqb (natAbs (getD ms i (pos 0))) 0 ≡ false) where
+    at : getD bs i (pos 0) ≡ getD bs₀ i (pos 0)
+    at = ap (λ l. getD l i (pos 0)) (m .added-so-far) ∙ getD-added-front bs₀ ms i
+
+    lines-more : cost * postings (take (i + 1) ms) ≡ cost * postings (take i ms) + cost
+    lines-more =
+        let p = postings (take i ms) in
+        let count : postings (take (i + 1) ms) ≡ p + 1 = ap (λ k. postings (take k ms)) (add-one i) ∙ postings-more ms i (omega arith) ∙ ap (λ b. p + cond b 0 1) due in
+        ap (λ k. cost * k) count ∙ mul-add cost p 1 ∙ ap (λ k. cost * p + k) (mul-one cost)
+
+    enough : cost ≤ left
+    enough =
+        let more = lines-more in
+        let taken = m .taken-so-far in
+        let most : cost * postings (take (i + 1) ms) ≤ cost * postings ms = mul-le-mul-left cost (postings-front ms (i + 1)) in
+        omega arith
+
+    -- a posting that was tested is never refused
+    pub accepted : post-answer bs left cost (i + 1) (getD ms i (pos 0)) ≡ Ok tt
+    accepted =
+        let good : in-bounds (of-account bs (i + 1) +ℤ getD ms i (pos 0)) ≡ true = ap (λ z. in-bounds (z +ℤ getD ms i (pos 0))) (of-account-at bs i h ∙ at) ∙ none-inside 1 bs₀ ms i none (omega arith) (omega arith) in
+        cond-true _ _ _ (and-from _ _ (account-at i h) good) ∙ cond-false _ _ _ (le-ltb left cost enough)
+
+    -- a turn with a posting
+    pub posted : (bs′ : List ℤ) (left′ : ℕ) → bs′ ≡ posted-to bs (i + 1) (getD ms i (pos 0)) → left′ ≡ left - cost → Made bs₀ left₀ cost ms (i + 1) bs′ left′
+    posted bs′ left′ eb el =
+        let a = getD ms i (pos 0) in
+        let back : i + 1 - 1 ≡ i = omega arith in
+        let more = lines-more in
+        let can = enough in
+        let taken = m .taken-so-far in
+        record {
+          added-so-far = eb ∙ ap (λ k. set bs k (getD bs k (pos 0) +ℤ a)) back ∙ ap (λ z. set bs i (z +ℤ a)) at ∙ ap (λ l. set l i (getD bs₀ i (pos 0) +ℤ a)) (m .added-so-far) ∙ sym (added-more bs₀ ms i (omega arith)) ∙ ap (λ k. added bs₀ (take k ms)) (sym (add-one i));
+          taken-so-far = omega arith;
+        }

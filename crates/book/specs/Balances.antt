@@ -4,7 +4,7 @@ use mathlib.Core.List.{List, [], _∷_}
 use Prim.Native.Nat.{ℕ, _-_}
 use lib.Dec.{leb, ltb}
 use lib.IntN.{ℤ, pos, _+ℤ_, natAbs}
-use lib.ListN.{getD, replicate}
+use lib.ListN.{getD}
 use Rattle.std.specs.declared.option.Option.{Option}
 use Rattle.std.specs.declared.option.Option.the-variants.{Some, None}
 
@@ -26,7 +26,3 @@ of-account xs n = cond (is-account n) (getD xs (n - 1) (pos 0)) (pos 0)
 abbrev pub total : List ℤ → ℤ
 total [] = pos 0
 total (x ∷ xs) = x +ℤ total xs
-
--- 0 for every account; shut, since it would compute to 64 terms
-unfoldable pub zeros : List ℤ
-zeros = replicate 64 (pos 0)

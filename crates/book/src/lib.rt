@@ -15,3 +15,6 @@ pub use posting::NetAmounts;
 pub use posting::post_all;
 pub use table::TableBook;
 pub use table::TableBookBook;
+
+#[cfg(test)]
+mod tests;

@@ -5,6 +5,7 @@ ghost use Prim.Native.Nat.{ℕ, _-_, _*_, _≤_};
 ghost use lib.IntN.{_+ℤ_};
 ghost use Rattle.std.specs.Results.{isOk};
 ghost use Rattle.std.specs.declared.option.Option.the-variants.{None};
+ghost use Rattle.std.specs.declared.result.Result.the-variants.{Ok};
 ghost use Rattle.book.specs.Balances.{of-account, total};
 ghost use Rattle.book.specs.Postings.{added, postings, lowest-out, all-answer};
 ghost use Rattle.book.specs.Reasons.{Reason};
@@ -14,7 +15,7 @@ use super::kind::Book;
 use terms::fault::Fault;
 
 /// The net amount for each account, account 1 first; where it is 0 there is no posting.
-pub type NetAmounts = [i64; 64];
+pub type NetAmounts = [i64; ACCOUNTS as usize];
 
 // The lowest account whose balance would leave its bounds.
 fn lowest_out<const N: u64, B: Book<N>>(book: &B, amounts: &NetAmounts) -> Option<u32>
@@ -44,32 +45,36 @@ fn count_postings(amounts: &NetAmounts) -> u64
 
 // Tests all postings and makes none.
 fn test_all<const N: u64, B: Book<N>>(book: &B, amounts: &NetAmounts) -> Result<(), Fault>
-    ensures { λ r. ⌜ r ≡ all-answer (balances (now (book .entry))) (lines (now (book .entry))) N (now (amounts .entry)) ⌝ }
+    ensures answer { λ r. ⌜ r ≡ all-answer (balances (now (book .entry))) (lines (now (book .entry))) N (now (amounts .entry)) ⌝ }
+    ensures reason { λ r. ⌜ Reason (balances (now (book .entry))) (lines (now (book .entry))) N (now (amounts .entry)) r ⌝ }
 {
     if let Some(account) = lowest_out(book, amounts) {
         return Err(Fault::OutOfBounds { account });
     }
-    let cost = B::COST;
-    if book.lines_left() < cost.lines * count_postings(amounts) {
+    if book.lines_left() < B::COST.lines * count_postings(amounts) {
         return Err(Fault::NoLines);
     }
     Ok(())
 }
 
-// Makes postings that were tested.
-fn make_all<const N: u64, B: Book<N>>(book: &mut B, amounts: &NetAmounts)
+// Makes postings that were tested, so that none is refused.
+fn make_all<const N: u64, B: Book<N>>(book: &mut B, amounts: &NetAmounts) -> Result<(), Fault>
     requires inside { ⌜ lowest-out 1 (balances (now book)) (now amounts) ≡ None ⌝ }
     requires paid { ⌜ N * postings (now amounts) ≤ lines (now book) ⌝ }
+    ensures made { λ r. ⌜ r ≡ Ok tt ⌝ }
     ensures after { λ _. ⌜ balances (now (book .exit)) ≡ added (balances (now (book .entry))) (now (amounts .entry)) ⌝ }
     ensures spent { λ _. ⌜ lines (now (book .exit)) ≡ lines (now (book .entry)) - N * postings (now (amounts .entry)) ⌝ }
     ensures place { λ _. ⌜ kept (now (book .entry)) (now (book .exit)) ⌝ }
+    ensures each { λ _. ⌜ ((n : ℕ) → of-account (balances (now (book .exit))) n ≡ of-account (balances (now (book .entry))) n +ℤ of-account (now (amounts .entry)) n) ⌝ }
+    ensures sum { λ _. ⌜ total (balances (now (book .exit))) ≡ total (balances (now (book .entry))) +ℤ total (now (amounts .entry)) ⌝ }
 {
     for i in 0..ACCOUNTS {
         let amount = amounts[i as usize];
         if amount != 0 {
-            let _ = book.post(i + 1, amount);
+            book.post(i + 1, amount)?;
         }
     }
+    Ok(())
 }
 
 /// Posts each amount that is not 0 to its account, or refuses and posts none.
@@ -84,6 +89,5 @@ pub fn post_all<const N: u64, B: Book<N>>(book: &mut B, amounts: &NetAmounts) ->
     ensures sum { λ r. ⌜ (isOk r ≡ true → total (balances (now (book .exit))) ≡ total (balances (now (book .entry))) +ℤ total (now (amounts .entry))) ⌝ }
 {
     test_all(book, amounts)?;
-    make_all(book, amounts);
-    Ok(())
+    make_all(book, amounts)
 }

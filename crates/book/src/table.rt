@@ -3,8 +3,8 @@ ghost use mathlib.Core.Path.{_≡_};
 ghost use mathlib.Core.Bool.{true};
 ghost use Prim.Native.Nat.{ℕ, zero-le};
 ghost use lib.IntN.{pos};
-ghost use lib.ListN.{length, getD};
-ghost use Rattle.book.specs.Balances.{in-bounds, of-account, zeros};
+ghost use lib.ListN.{length, getD, replicate};
+ghost use Rattle.book.specs.Balances.{in-bounds};
 use super::balance::ACCOUNTS;
 use super::balance::balance_after;
 use super::cost::Cost;
@@ -22,8 +22,7 @@ pub struct TableBook {
 impl TableBook {
     /// A book in which every balance is 0.
     pub fn new() -> Self
-        ensures value { λ r. ⌜ r .table ≡ zeros ⌝ }
-        ensures empty { λ r. ⌜ ((n : ℕ) → of-account (r .table) n ≡ pos 0) ⌝ }
+        ensures { λ r. ⌜ r .table ≡ replicate 64 (pos 0) ⌝ }
     {
         TableBook { table: [0; 64] }
     }
