@@ -1,5 +1,5 @@
 -- One turn of each loop over the accounts.
-use mathlib.Core.Path.{_≡_, refl, sym, ap, _∙_}
+use mathlib.Core.Path.{_≡_, sym, ap, _∙_}
 use mathlib.Core.Bool.{true, false, cond}
 use mathlib.Core.List.{List, [], _∷_}
 use Prim.Native.Nat.{ℕ, zero, suc, _+_, _-_, _*_, _≤_, _<_, zero-le}
@@ -15,12 +15,9 @@ use Rattle.std.proofs.shelf.Lists.{drop-more, set-getD}
 use Rattle.std.proofs.shelf.Signed.{ints}
 use Rattle.std.proofs.shelf.Tests.{ne-eqb, cond-true, cond-false, le-ltb, and-from}
 use Rattle.std.specs.Options.{isSome}
-use Rattle.std.specs.Results.{isOk}
 use Rattle.std.specs.declared.option.Option.{Option}
 use Rattle.std.specs.declared.option.Option.the-variants.{Some, None}
-use Rattle.std.specs.declared.result.Result.{Result}
 use Rattle.std.specs.declared.result.Result.the-variants.{Ok}
-use Rattle.terms.specs.declared.fault.Fault.{Fault}
 use Rattle.book.specs.Balances.{in-bounds, new-balance, of-account}
 use Rattle.book.specs.Postings.{post-answer, posted-to, added, postings, lowest-out}
 use Rattle.book.proofs.Accounts.{account-at, of-account-at}

@@ -1,5 +1,5 @@
 -- One posting, and many of which all are made or none.
-use mathlib.Core.Bool.{Bool, cond, _&&_}
+use mathlib.Core.Bool.{cond, _&&_}
 use mathlib.Core.List.{List, [], _∷_}
 use Prim.Native.Nat.{ℕ, suc, _-_, _*_, _+_}
 use lib.Dec.{ltb, eqb}

@@ -1,11 +1,8 @@
 use mathlib.Core.Path.{_≡_}
 use borrow.Author.Needs.{needs}
-use Rattle.std.specs.declared.result.Result.{Result}
 use Rattle.std.specs.declared.result.Result.the-variants.{Ok, Err}
-use Rattle.terms.specs.declared.fault.Fault.{Fault}
 use Rattle.terms.specs.declared.fault.Fault.the-variants.{OutOfBounds, NoLines}
 use Rattle.book.specs.Postings.{all-answer}
-use Rattle.book.specs.Reasons.{Reason}
 use Rattle.book.proofs.Reasons.{reason}
 use Rattle.book.proofs.posting.test_all.Needs as need
 
