@@ -37,15 +37,21 @@ is-zero (negsuc n) f e = absurd (omega (arith, f .sfits))
 
 -- ---- the test
 
--- what account i + 1 tells, with its balance b and the balance o after its amount
-pub lowest-more : (bs ms : List ℤ) (i : ℕ) (b : ℤ) (o : Option ℤ) → length bs ≡ 64 → length ms ≡ 64 → i < 64 → b ≡ of-account bs (i + 1) → o ≡ new-balance b (getD ms i (pos 0))
-    → lowest-out (i + 1) (drop i bs) (drop i ms) ≡ cond (isSome o) (lowest-out (i + 1 + 1) (drop (i + 1) bs) (drop (i + 1) ms)) (Some (i + 1))
-lowest-more bs ms i b o long all h eb eo =
-    let a = getD ms i (pos 0) in
-    let hb : i < length bs = omega arith in
-    let hm : i < length ms = omega arith in
-    let told : in-bounds (getD bs i (pos 0) +ℤ a) ≡ isSome o = ap (λ z. in-bounds (z +ℤ a)) (sym (eb ∙ of-account-at bs i h)) ∙ sym (ap isSome eo ∙ new-balance-some b a) in
-    rw (drop-more bs i (pos 0) hb, drop-more ms i (pos 0) hm) (ap (λ t. cond t (lowest-out (i + 1 + 1) (drop (i + 1) bs) (drop (i + 1) ms)) (Some (i + 1))) told)
+-- account i + 1, with its balance b and the balance o after its amount
+module _ (bs ms : List ℤ) (i : ℕ) (b : ℤ) (o : Option ℤ) (long : length bs ≡ 64) (all : length ms ≡ 64) (h : i < 64) (eb : b ≡ of-account bs (i + 1)) (eo : o ≡ new-balance b (getD ms i (pos 0))) where
+  lowest-more : lowest-out (i + 1) (drop i bs) (drop i ms) ≡ cond (isSome o) (lowest-out (i + 1 + 1) (drop (i + 1) bs) (drop (i + 1) ms)) (Some (i + 1))
+  lowest-more =
+      let a = getD ms i (pos 0) in
+      let hb : i < length bs = omega arith in
+      let hm : i < length ms = omega arith in
+      let told : in-bounds (getD bs i (pos 0) +ℤ a) ≡ isSome o = ap (λ z. in-bounds (z +ℤ a)) (sym (eb ∙ of-account-at bs i h)) ∙ sym (ap isSome eo ∙ new-balance-some b a) in
+      rw (drop-more bs i (pos 0) hb, drop-more ms i (pos 0) hm) (ap (λ t. cond t (lowest-out (i + 1 + 1) (drop (i + 1) bs) (drop (i + 1) ms)) (Some (i + 1))) told)
+
+  pub lowest-here : isSome o ≡ false → lowest-out (i + 1) (drop i bs) (drop i ms) ≡ Some (i + 1)
+  lowest-here t = lowest-more ∙ cond-false _ _ _ t
+
+  pub lowest-on : isSome o ≡ true → lowest-out (i + 1) (drop i bs) (drop i ms) ≡ lowest-out (i + 1 + 1) (drop (i + 1) bs) (drop (i + 1) ms)
+  lowest-on t = lowest-more ∙ cond-true _ _ _ t
 
 -- ---- the count
 

@@ -10,7 +10,7 @@ pub const LIMIT: i64 = 1_000_000_000_000_000_000;
 
 /// The balance after a posting of this amount, if it is within bounds.
 pub fn balance_after(balance: i64, amount: i64) -> Option<i64>
-    ensures { λ r. ⌜ r ≡ new-balance balance amount ⌝ }
+    ensures answer { λ r. ⌜ r ≡ new-balance balance amount ⌝ }
 {
     match balance.checked_add(amount) {
         Some(next) if -LIMIT <= next && next <= LIMIT => Some(next),

@@ -30,11 +30,11 @@ pub trait Book<const N: u64> {
 
     /// The balance of an account; 0 for a number that is no account.
     fn balance(&self, account: u32) -> i64
-        ensures { λ r. ⌜ r ≡ of-account (balances (now (self .entry))) account ⌝ };
+        ensures answer { λ r. ⌜ r ≡ of-account (balances (now (self .entry))) account ⌝ };
 
     /// The lines that are left.
     fn lines_left(&self) -> u64
-        ensures { λ r. ⌜ r ≡ lines (now (self .entry)) ⌝ };
+        ensures answer { λ r. ⌜ r ≡ lines (now (self .entry)) ⌝ };
 
     /// Adds the amount to the account's balance, or refuses and changes nothing.
     fn post(&mut self, account: u32, amount: i64) -> Result<(), Fault>

@@ -19,7 +19,7 @@ pub type NetAmounts = [i64; ACCOUNTS as usize];
 
 // The lowest account whose balance would leave its bounds.
 fn lowest_out<const N: u64, B: Book<N>>(book: &B, amounts: &NetAmounts) -> Option<u32>
-    ensures { λ r. ⌜ r ≡ lowest-out 1 (balances (now (book .entry))) (now (amounts .entry)) ⌝ }
+    ensures answer { λ r. ⌜ r ≡ lowest-out 1 (balances (now (book .entry))) (now (amounts .entry)) ⌝ }
 {
     for i in 0..ACCOUNTS {
         let account = i + 1;

@@ -14,7 +14,7 @@ use terms::fault::Fault;
 /// A book that keeps one balance an account. Its postings take no line, and it never has one left.
 #[derive(Drop)]
 pub struct TableBook {
-    table: [i64; 64],
+    table: [i64; ACCOUNTS as usize],
     ghost accounts: { length table ≡ 64 },
     ghost bounded: { (k : ℕ) → in-bounds (getD table k (pos 0)) ≡ true },
 }
@@ -22,9 +22,11 @@ pub struct TableBook {
 impl TableBook {
     /// A book in which every balance is 0.
     pub fn new() -> Self
-        ensures { λ r. ⌜ r .table ≡ replicate 64 (pos 0) ⌝ }
+        ensures empty { λ r. ⌜ r .table ≡ replicate 64 (pos 0) ⌝ }
     {
-        TableBook { table: [0; 64] }
+        TableBook {
+            table: [0; ACCOUNTS as usize],
+        }
     }
 }
 

@@ -7,9 +7,8 @@ use mir.Syntax.{w64}
 use mir.Val.{SFits}
 use Rattle.std.proofs.shelf.Lists.{drop-all}
 use Rattle.std.proofs.shelf.Signed.{toZ-ofZ}
-use Rattle.std.proofs.shelf.Tests.{cond-true, cond-false}
 use Rattle.book.specs.Balances.{new-balance}
-use Rattle.book.proofs.Turns.{lowest-more}
+use Rattle.book.proofs.Turns.{lowest-here, lowest-on}
 use Rattle.book.proofs.posting.lowest_out.Needs as need
 
 pub returns-then-is-none : need.returns-then-is-none
@@ -18,9 +17,9 @@ returns-then-is-none g c =
     let ms = c .args .amounts .now in
     let fb : SFits w64 (c .balance .result) = search needs in
     let fa : SFits w64 (getD ms (c .loop-i .i) (pos 0)) = search needs in
-    let e : c .balance-after .result ≡ new-balance (c .balance .result) (getD ms (c .loop-i .i) (pos 0)) = simp toZ-ofZ at (c .balance-after .ensures) in
-    let turn = lowest-more (g .B·Book .balances b) ms _ _ _ (g .B·Book .laws .accounts b) (c .told-amounts) (c .loop-i-test .taken) (c .balance .ensures) e in
-    sym (sym (c .loop-i .inv) ∙ turn ∙ cond-false _ _ _ (c .if-is-none .ensures tt))
+    let e : c .balance-after .result ≡ new-balance (c .balance .result) (getD ms (c .loop-i .i) (pos 0)) = simp toZ-ofZ at (c .balance-after .ensures .answer) in
+    let turn = lowest-here (g .B·Book .balances b) ms (c .loop-i .i) (c .balance .result) (c .balance-after .result) (g .B·Book .laws .accounts b) (c .told-amounts) (c .loop-i-test .taken) (c .balance .ensures .answer) e (c .if-is-none .ensures tt) in
+    record { answer = sym turn ∙ c .loop-i .inv }
 
 pub loop-i-again : need.loop-i-again
 loop-i-again g c =
@@ -28,13 +27,13 @@ loop-i-again g c =
     let ms = c .args .amounts .now in
     let fb : SFits w64 (c .balance .result) = search needs in
     let fa : SFits w64 (getD ms (c .loop-i .i) (pos 0)) = search needs in
-    let e : c .balance-after .result ≡ new-balance (c .balance .result) (getD ms (c .loop-i .i) (pos 0)) = simp toZ-ofZ at (c .balance-after .ensures) in
-    let turn = lowest-more (g .B·Book .balances b) ms _ _ _ (g .B·Book .laws .accounts b) (c .told-amounts) (c .loop-i-test .taken) (c .balance .ensures) e in
-    sym (turn ∙ cond-true _ _ _ (c .if-is-none .ensures tt)) ∙ c .loop-i .inv
+    let e : c .balance-after .result ≡ new-balance (c .balance .result) (getD ms (c .loop-i .i) (pos 0)) = simp toZ-ofZ at (c .balance-after .ensures .answer) in
+    let turn = lowest-on (g .B·Book .balances b) ms (c .loop-i .i) (c .balance .result) (c .balance-after .result) (g .B·Book .laws .accounts b) (c .told-amounts) (c .loop-i-test .taken) (c .balance .ensures .answer) e (c .if-is-none .ensures tt) in
+    sym turn ∙ c .loop-i .inv
 
 pub returns : need.returns
 returns g c =
     let bs = g .B·Book .balances (c .args .book .now) in
     let long : length bs ≡ 64 = g .B·Book .laws .accounts (c .args .book .now) in
     let e = drop-all (c .loop-i .i) bs (omega arith) in
-    rw e at (c .loop-i .inv)
+    record { answer = rw e at (c .loop-i .inv) }
