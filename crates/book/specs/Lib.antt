@@ -1,0 +1,4 @@
+pub mod Balances
+pub mod Postings
+pub mod Laws
+pub mod Reasons
