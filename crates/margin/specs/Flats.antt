@@ -1,7 +1,7 @@
 -- A flat rule by its table: what it asks, and one series set anew.
 use Prim.Native.Nat.{ℕ, _-_, zero-le}
 use mathlib.Core.Path.{_≡_}
-use mathlib.Core.List.{List}
+use mathlib.Core.List.{List, [], _∷_, map}
 use lib.ListN.{getD, set, replicate}
 use Rattle.margin.specs.declared.tariff.Tariff.{Tariff}
 use Rattle.margin.specs.declared.flat.Flat.{Flat}
@@ -12,6 +12,10 @@ use Rattle.margin.specs.Kept.{flat-lawful}
 
 abbrev pub nought : Tariff
 nought = record { initial = 0; minimum = 0; bounded = zero-le; ordered = zero-le }
+
+-- the initial and the minimum margin a contract, series by series
+abbrev pub table : Flat → List (ℕ × ℕ)
+table f = map (λ t. (t .initial, t .minimum)) (f .tariffs)
 
 -- series are counted from 1
 abbrev pub tariff-of : Flat → ℕ → Tariff
@@ -26,9 +30,6 @@ with-tariff f series t = record { tariffs = set (f .tariffs) (series - 1) t }
 -- one tariff for every series
 abbrev pub alike : Tariff → Flat
 alike t = record { tariffs = replicate 24 t }
-
-abbrev pub Asks-nothing : Answers → Type 0
-Asks-nothing A = (series size price count : ℕ) → A series size price count ≡ (0, 0)
 
 pub flat-keeps : (f : Flat) → Lawful (flat-asks f)
 flat-keeps f = flat-lawful _ (λ series. tariff-of f series .bounded) (λ series. tariff-of f series .ordered)

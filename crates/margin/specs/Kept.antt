@@ -7,55 +7,50 @@ use native.Mathlib.Omega.{arith}
 use lib.Dec.{leb}
 use Rattle.std.proofs.shelf.Tests.{leb-true, le-leb, and-parts, both-ways, cond-both, cond-false}
 use Rattle.margin.specs.Question.{Answers, askable, within, in-range}
-use Rattle.margin.specs.Laws.{Lawful, At-least, Grows, most}
+use Rattle.margin.specs.Laws.{Fair, Lawful, At-least, Grows, most}
 use Rattle.margin.specs.Rules.{flat, flat-rule, portion, Rounded-up, share, share-rule, raised, additional-rule}
 
 -- what is known of a question in range
-pub record Asked (size price count : ℕ) : Type 0 where
+pub record Asked (series size price count : ℕ) : Type 0 where
+  pub series-low : 1 ≤ series
+  pub series-high : series ≤ 24
   pub size-high : size ≤ 1000
   pub price-high : price ≤ 1000000000
   pub count-high : count ≤ 1000
 
-pub asked : (series size price count : ℕ) → askable series size price count ≡ true → Asked size price count
+pub asked : (series size price count : ℕ) → askable series size price count ≡ true → Asked series size price count
 asked series size price count e =
-    let a = and-parts (within 1 24 series) _ e .1 in
-    let b = and-parts (within 1 1000 size) _ a in
+    let a = and-parts (within 1 24 series) _ e in
+    let b = and-parts (within 1 1000 size) _ (a .1) in
     let d = and-parts (within 1 1000000000 price) _ (b .1) in
     record {
+      series-low = leb-true 1 series (and-parts (leb 1 series) _ (a .0) .0);
+      series-high = leb-true series 24 (and-parts (leb 1 series) _ (a .0) .1);
       size-high = leb-true size 1000 (and-parts (leb 1 size) _ (b .0) .1);
       price-high = leb-true price 1000000000 (and-parts (leb 1 price) _ (d .0) .1);
       count-high = leb-true count 1000 (d .1);
     }
 
-pub value-high : {size price count : ℕ} → Asked size price count → price * size * count ≤ most
+pub value-high : {series size price count : ℕ} → Asked series size price count → price * size * count ≤ most
 value-high q = mul-le-mul (mul-le-mul (q .price-high) (q .size-high)) (q .count-high)
 
-pub extra-high : {extra size price count : ℕ} → extra ≤ 1000000000000 → Asked size price count → extra * count ≤ most
+pub extra-high : {extra series size price count : ℕ} → extra ≤ 1000000000000 → Asked series size price count → extra * count ≤ most
 extra-high h q = mul-le-mul h (q .count-high)
 
 -- ---- answers that are cut to the questions in range
 
--- an answer in its order and bounds
-record Fair (margins : ℕ × ℕ) : Type 0 where
-  pub ordered : margins .1 ≤ margins .0
-  pub bounded : margins .0 ≤ most
-
 module _ (A : Answers) where
   -- the laws need to be shown of questions in range alone
-  cut-lawful : ((series size price count : ℕ) → Asked size price count → Fair (A series size price count)) → ((series size price : ℕ) → A series size price 0 ≡ (0, 0)) → Lawful (in-range A)
+  cut-lawful : ((series size price count : ℕ) → Asked series size price count → Fair (A series size price count)) → ((series size price : ℕ) → A series size price 0 ≡ (0, 0)) → Lawful (in-range A)
   cut-lawful fair none =
       record {
-        ordered = λ series size price count. cut series size price count .ordered;
-        bounded = λ series size price count. cut series size price count .bounded;
+        fair = λ series size price count.
+            cond-both (askable series size price count) _ _ Fair
+            (λ e. fair series size price count (asked series size price count e))
+            (λ _. record { ordered = zero-le; bounded = zero-le });
         none = λ series size price. cond-both (askable series size price 0) _ _ (λ m. m ≡ (0, 0)) (λ _. none series size price) (λ _. refl);
         out-of-range = λ series size price count e. cond-false (askable series size price count) _ _ e;
       }
-    where
-      cut : (series size price count : ℕ) → Fair (in-range A series size price count)
-      cut series size price count =
-          cond-both (askable series size price count) _ _ Fair
-          (λ e. fair series size price count (asked series size price count e))
-          (λ _. record { ordered = zero-le; bounded = zero-le })
 
   cut-grows : ((series size price few many : ℕ) → few ≤ many → At-least (A series size price few) (A series size price many)) → Grows (in-range A)
   cut-grows grows series size price few many up high =
@@ -119,6 +114,6 @@ module _ (extra : ℕ) (A : Answers) (laws : Lawful A) where
   additional-lawful =
       cut-lawful _
       (λ series size price count q.
-      let o = laws .ordered series size price count in
+      let fair = laws .fair series size price count in
       record { ordered = omega arith; bounded = min-le-left most _ })
       (λ series size price. simp (laws .none, mul-zero))

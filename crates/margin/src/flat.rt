@@ -1,10 +1,11 @@
 //! The flat rule: so much a contract, for each series.
 ghost use mathlib.Core.Path.{_≡_};
 ghost use mathlib.Core.Bool.{cond};
+ghost use lib.ListN.{replicate};
 ghost use Rattle.std.specs.Results.{isOk};
 ghost use Rattle.margin.specs.Question.{within};
 ghost use Rattle.margin.specs.Settings.{setting};
-ghost use Rattle.margin.specs.Flats.{flat-asks, flat-keeps, with-tariff, alike, nought, Asks-nothing};
+ghost use Rattle.margin.specs.Flats.{table, flat-asks, flat-keeps, with-tariff, alike};
 use crate::question::is_askable;
 use crate::rule::MarginRule;
 use crate::tariff::Tariff;
@@ -19,8 +20,7 @@ pub struct Flat {
 impl Flat {
     /// A rule that asks nothing for any series.
     pub fn new() -> Flat
-        ensures table { λ r. ⌜ r ≡ alike nought ⌝ }
-        ensures nothing { λ r. ⌜ Asks-nothing (flat-asks r) ⌝ }
+        ensures { λ r. ⌜ table r ≡ replicate 24 (0, 0) ⌝ }
     {
         Flat::uniform(Tariff::NOUGHT)
     }

@@ -1,7 +1,6 @@
 //! Margin rules: what a position has to be covered by, the initial and the minimum margin.
 
 pub mod additional;
-pub mod ask;
 pub mod flat;
 pub mod laws;
 mod question;

@@ -4,6 +4,7 @@ ghost use mathlib.Core.Bool.{false, cond, _&&_};
 ghost use Prim.Native.Nat.{_≤_};
 ghost use Rattle.std.specs.Results.{isOk};
 ghost use Rattle.margin.specs.Question.{within};
+ghost use Rattle.margin.specs.Laws.{most};
 ghost use Rattle.margin.specs.Rules.{portion as portion-of, share-rule};
 ghost use Rattle.margin.specs.Settings.{numbers-of, setting};
 ghost use Rattle.margin.specs.Kept.{share-lawful};
@@ -46,10 +47,11 @@ impl Share {
 
 // So many ten-thousandths of an amount, rounded up.
 fn portion(amount: u64, parts: Parts) -> u64
-    requires { ⌜ amount ≤ 1000000000000000 ⌝ }
+    requires { ⌜ amount ≤ most ⌝ }
     ensures { λ r. ⌜ r ≡ portion-of amount (parts .value) ⌝ }
 {
-    (amount * parts.get()).div_ceil(10_000)
+    let exact = amount * parts.get();
+    exact.div_ceil(10_000)
 }
 
 pub impl MarginRule for Share as ShareRule {
