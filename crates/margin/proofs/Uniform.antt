@@ -12,7 +12,7 @@ use Rattle.margin.specs.declared.flat.Flat.{Flat}
 use Rattle.margin.specs.Question.{askable}
 use Rattle.margin.specs.Laws.{Alike, Asks-nothing}
 use Rattle.margin.specs.Rules.{flat, flat-rule}
-use Rattle.margin.specs.Kept.{asked}
+use Rattle.margin.specs.Kept.{ranges-of}
 use Rattle.margin.specs.Flats.{nought, table, flat-asks}
 
 -- what stands in the table is what the series asks
@@ -29,7 +29,7 @@ pub uniform-asks : (rule : Flat) (initial minimum : ℕ) → table rule ≡ repl
 uniform-asks rule initial minimum e series size price count =
     cond-same (askable series size price count) _ _ _
     (λ t.
-    let q = asked series size price count t in
+    let q = ranges-of series size price count t in
     let k : series - 1 < 24 = omega arith in
     let each = read (rule .tariffs) (series - 1) ∙ ap (λ ms. getD ms (series - 1) (0, 0)) e ∙ getD-replicate 24 (series - 1) (initial, minimum) (0, 0) k in
     ap (λ m. flat (m .0) (m .1) count) each)

@@ -1,7 +1,6 @@
 -- A flat rule by its table: what it asks, and one series set anew.
 use Prim.Native.Nat.{ℕ, _-_, zero-le}
-use mathlib.Core.Path.{_≡_}
-use mathlib.Core.List.{List, [], _∷_, map}
+use mathlib.Core.List.{List, map}
 use lib.ListN.{getD, set, replicate}
 use Rattle.margin.specs.declared.tariff.Tariff.{Tariff}
 use Rattle.margin.specs.declared.flat.Flat.{Flat}

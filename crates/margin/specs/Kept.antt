@@ -1,25 +1,25 @@
 -- Each rule keeps the laws.
 use mathlib.Core.Path.{_≡_, refl, sym, ap, _∙_}
 use mathlib.Core.Bool.{Bool, true, false, cond, _&&_}
-use Prim.Native.Nat.{ℕ, _+_, _*_, _/_, _≤_, min, zero-le}
+use Prim.Native.Nat.{ℕ, _*_, _≤_, zero-le}
 use native.Mathlib.Nat.{mul-zero, zero-mul, mul-le-mul, mul-le-mul-left, mul-le-mul-right, min-le-left, le-trans}
 use native.Mathlib.Omega.{arith}
 use lib.Dec.{leb}
 use Rattle.std.proofs.shelf.Tests.{leb-true, le-leb, and-parts, both-ways, cond-both, cond-false}
-use Rattle.margin.specs.Question.{Answers, askable, within, in-range}
+use Rattle.margin.specs.Question.{Answers, askable, within, if-askable}
 use Rattle.margin.specs.Laws.{Fair, Lawful, At-least, Grows, most}
-use Rattle.margin.specs.Rules.{flat, flat-rule, portion, Rounded-up, share, share-rule, raised, additional-rule}
+use Rattle.margin.specs.Rules.{flat-rule, portion, Rounded-up, share-rule, additional-rule}
 
 -- what is known of a question in range
-pub record Asked (series size price count : ℕ) : Type 0 where
+pub record In-ranges (series size price count : ℕ) : Type 0 where
   pub series-low : 1 ≤ series
   pub series-high : series ≤ 24
   pub size-high : size ≤ 1000
   pub price-high : price ≤ 1000000000
   pub count-high : count ≤ 1000
 
-pub asked : (series size price count : ℕ) → askable series size price count ≡ true → Asked series size price count
-asked series size price count e =
+pub ranges-of : (series size price count : ℕ) → askable series size price count ≡ true → In-ranges series size price count
+ranges-of series size price count e =
     let a = and-parts (within 1 24 series) _ e in
     let b = and-parts (within 1 1000 size) _ (a .1) in
     let d = and-parts (within 1 1000000000 price) _ (b .1) in
@@ -31,28 +31,28 @@ asked series size price count e =
       count-high = leb-true count 1000 (d .1);
     }
 
-pub value-high : {series size price count : ℕ} → Asked series size price count → price * size * count ≤ most
+pub value-high : {series size price count : ℕ} → In-ranges series size price count → price * size * count ≤ most
 value-high q = mul-le-mul (mul-le-mul (q .price-high) (q .size-high)) (q .count-high)
 
-pub extra-high : {extra series size price count : ℕ} → extra ≤ 1000000000000 → Asked series size price count → extra * count ≤ most
+pub extra-high : {extra series size price count : ℕ} → extra ≤ 1000000000000 → In-ranges series size price count → extra * count ≤ most
 extra-high h q = mul-le-mul h (q .count-high)
 
 -- ---- answers that are cut to the questions in range
 
 module _ (A : Answers) where
   -- the laws need to be shown of questions in range alone
-  cut-lawful : ((series size price count : ℕ) → Asked series size price count → Fair (A series size price count)) → ((series size price : ℕ) → A series size price 0 ≡ (0, 0)) → Lawful (in-range A)
+  cut-lawful : ((series size price count : ℕ) → In-ranges series size price count → Fair (A series size price count)) → ((series size price : ℕ) → A series size price 0 ≡ (0, 0)) → Lawful (if-askable A)
   cut-lawful fair none =
       record {
         fair = λ series size price count.
             cond-both (askable series size price count) _ _ Fair
-            (λ e. fair series size price count (asked series size price count e))
+            (λ e. fair series size price count (ranges-of series size price count e))
             (λ _. record { ordered = zero-le; bounded = zero-le });
         none = λ series size price. cond-both (askable series size price 0) _ _ (λ m. m ≡ (0, 0)) (λ _. none series size price) (λ _. refl);
         out-of-range = λ series size price count e. cond-false (askable series size price count) _ _ e;
       }
 
-  cut-grows : ((series size price few many : ℕ) → few ≤ many → At-least (A series size price few) (A series size price many)) → Grows (in-range A)
+  cut-grows : ((series size price few many : ℕ) → few ≤ many → At-least (A series size price few) (A series size price many)) → Grows (if-askable A)
   cut-grows grows series size price few many up high =
       both (askable series size price few) (askable series size price many) _ _ same (grows series size price few many up)
     where
@@ -61,7 +61,7 @@ module _ (A : Answers) where
 
       both : (b c : Bool) (x y : ℕ × ℕ) → b ≡ c → At-least x y → At-least (cond b x (0, 0)) (cond c y (0, 0))
       both true true x y e h = h
-      both true false x y e h = absurd (both-ways true (e) refl)
+      both true false x y e h = absurd (both-ways true e refl)
       both false c x y e h = record { initial = zero-le; minimum = zero-le }
 
 -- ---- flat

@@ -3,6 +3,7 @@ use Prim.Native.Nat.{ℕ}
 use mathlib.Core.Bool.{Bool, cond, _&&_}
 use lib.Dec.{leb}
 
+-- from low to high
 abbrev pub within : ℕ → ℕ → ℕ → Bool
 within low high n = leb low n && leb n high
 
@@ -16,5 +17,5 @@ abbrev pub Answers : Type 0
 Answers = ℕ → ℕ → ℕ → ℕ → ℕ × ℕ
 
 -- such answers where the question is in range, and nothing elsewhere
-abbrev pub in-range : Answers → Answers
-in-range A series size price count = cond (askable series size price count) (A series size price count) (0, 0)
+abbrev pub if-askable : Answers → Answers
+if-askable A series size price count = cond (askable series size price count) (A series size price count) (0, 0)

@@ -1,6 +1,6 @@
 -- The answers of the three rules.
 use Prim.Native.Nat.{ℕ, _+_, _*_, _/_, _≤_, min}
-use Rattle.margin.specs.Question.{Answers, in-range}
+use Rattle.margin.specs.Question.{Answers, if-askable}
 use Rattle.margin.specs.Laws.{most}
 
 -- so much a contract
@@ -27,11 +27,11 @@ raised extra count margins = (min most (margins .0 + extra * count), min most (m
 
 -- a flat rule, by what each series asks a contract
 abbrev pub flat-rule : (ℕ → ℕ × ℕ) → Answers
-flat-rule each = in-range (λ series size price count. flat (each series .0) (each series .1) count)
+flat-rule each = if-askable (λ series size price count. flat (each series .0) (each series .1) count)
 
 abbrev pub share-rule : ℕ → ℕ → Answers
-share-rule rate part = in-range (λ series size price count. share rate part price size count)
+share-rule rate part = if-askable (λ series size price count. share rate part price size count)
 
 -- over any other answers
 abbrev pub additional-rule : ℕ → Answers → Answers
-additional-rule extra A = in-range (λ series size price count. raised extra count (A series size price count))
+additional-rule extra A = if-askable (λ series size price count. raised extra count (A series size price count))

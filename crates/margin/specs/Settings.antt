@@ -1,12 +1,10 @@
 -- The settings of the rules, and their refusal.
 use Prim.Native.Nat.{ℕ}
-use mathlib.Core.Bool.{Bool, cond, _&&_}
-use lib.Dec.{leb}
+use mathlib.Core.Bool.{Bool, cond}
 use Rattle.std.specs.declared.result.Result.{Result}
 use Rattle.std.specs.declared.result.Result.the-variants.{Ok, Err}
 use Rattle.terms.specs.declared.fault.Fault.{Fault}
 use Rattle.terms.specs.declared.fault.Fault.the-variants.{OutOfRange}
-use Rattle.margin.specs.Question.{within}
 
 -- the setting where its numbers are in range, else a refusal
 abbrev pub setting : {S : Type 0} → Bool → S → Result S Fault
