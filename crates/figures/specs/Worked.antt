@@ -10,6 +10,8 @@ use Rattle.price.specs.declared.day.Session.{Session}
 use Rattle.price.specs.declared.day.Trade.{Trade}
 use Rattle.price.specs.declared.day.Rule.{Rule}
 use Rattle.price.specs.declared.day.Rule.the-variants.{LastHalfHour, LastHour, WholeDay, Quotations, Committee}
+use Rattle.margin.specs.Question.{Answers}
+use Rattle.margin.specs.Rules.{flat-rule, share-rule}
 use Rattle.price.specs.Letters.{letter-of}
 use Rattle.price.specs.Prices.{Priced, settlement}
 
@@ -17,13 +19,17 @@ use Rattle.price.specs.Prices.{Priced, settlement}
 pub data Question : Type 0 where
   -- the settlement price of a day
   price-of : Session → List Trade → Question
+  -- what a margin rule asks for a series, its size and price, and a count
+  margins-of : Answers → ℕ → ℕ → ℕ → ℕ → Question
 
--- an answer: a price with its letter, or a refusal
+-- an answer: a price with its letter or a refusal; the initial and the minimum margin
 pub data Reply : Type 0 where
   priced : Priced → Reply
+  asked-for : ℕ → ℕ → Reply
 
 abbrev pub reply : Question → Reply
 reply (price-of s ts) = priced (settlement s ts)
+reply (margins-of rule series size price count) = asked-for (rule series size price count .0) (rule series size price count .1)
 
 pub record Figure : Type 0 where
   pub asked : Question
@@ -55,6 +61,10 @@ worked =
     ∷ figure (price-of (noon None None) (at 36000 990 9 ∷ at 41400 1000 2 ∷ [])) (by 992 WholeDay)
     -- no trades, bid 990 and ask 1,001
     ∷ figure (price-of (noon (Some 990) (Some 1001)) []) (by 996 Quotations)
+    -- flat, 5,000 and 3,500 a contract: 2 contracts
+    ∷ figure (margins-of (flat-rule (λ series. (5000, 3500))) 1 10 1000 2) (asked-for 10000 7000)
+    -- share, rate 1,250 and part 7,000: 3 contracts of size 10 at 1,003
+    ∷ figure (margins-of (share-rule 1250 7000) 1 10 1003 3) (asked-for 3762 2634)
     ∷ []
 
 abbrev pub Figures : Type 0

@@ -3,10 +3,17 @@ ghost use mathlib.Core.Path.{_≡_};
 ghost use lib.ListN.{length};
 ghost use Rattle.figures.specs.Worked as Worked;
 ghost use Rattle.figures.specs.Worked.{Figures, worked};
+use margin::flat::Flat;
+use margin::flat::FlatRule;
+use margin::rule::MarginRule;
+use margin::share::Share;
+use margin::share::ShareRule;
+use margin::tariff::Tariff;
 use price::day::Band;
 use price::day::Session;
 use price::day::Trade;
 use price::settlement_price;
+use std::error::AnyError;
 use std::io;
 
 /// The definitions answer every worked figure as it was written down. Returns how many there are.
@@ -14,7 +21,7 @@ pub fn figures_stand() -> usize
     ensures all { λ _. ⌜ Figures ⌝ }
     ensures count { λ r. ⌜ r ≡ length worked ⌝ }
 {
-    4
+    6
 }
 
 /// A session that ends at noon, with the band 900 to 1,100.
@@ -62,31 +69,63 @@ fn print_price(
     }
 }
 
-fn main(rt: LibcRuntime) -> io::Result<()> {
-    let count = figures_stand();
-    println!(rt, "proved of the definitions: {count}")?;
+fn print_margins<R: MarginRule>(
+    rt: &LibcRuntime,
+    what: &str,
+    rule: &R,
+    price: u64,
+    count: u64,
+) -> io::Result<()> {
+    let (initial, minimum) = rule.margins(1, 10, price, count);
+    println!(rt, "{what}: {initial} and {minimum}")
+}
+
+fn print_prices(rt: &LibcRuntime) -> io::Result<()> {
+    let quiet = noon(None, None);
     print_price(
-        &rt,
+        rt,
         "3 at 1,000 and 1 at 1,002",
         &[at(43_200, 1_000, 3), at(43_200, 1_002, 1)],
-        &noon(None, None),
+        &quiet,
     )?;
     print_price(
-        &rt,
+        rt,
         "day 10, half hour 2",
         &[at(36_000, 990, 8), at(41_400, 1_000, 2)],
-        &noon(None, None),
+        &quiet,
     )?;
     print_price(
-        &rt,
+        rt,
         "day 11, half hour 2",
         &[at(36_000, 990, 9), at(41_400, 1_000, 2)],
-        &noon(None, None),
+        &quiet,
     )?;
-    print_price(
+    print_price(rt, "bid 990, ask 1,001", &[], &noon(Some(990), Some(1_001)))
+}
+
+fn main(rt: LibcRuntime) -> Result<(), AnyError> {
+    let count = figures_stand();
+    println!(rt, "proved of the definitions: {count}")?;
+    print_prices(&rt)?;
+    let Ok(tariff) = Tariff::new(5_000, 3_500) else {
+        return Err("no such tariff".into());
+    };
+    print_margins(
         &rt,
-        "bid 990, ask 1,001",
-        &[],
-        &noon(Some(990), Some(1_001)),
-    )
+        "flat 5,000 and 3,500, 2 contracts",
+        &Flat::uniform(tariff),
+        1_000,
+        2,
+    )?;
+    let Ok(share) = Share::new(1_250, 7_000) else {
+        return Err("no such share".into());
+    };
+    print_margins(
+        &rt,
+        "share 1,250 and 7,000, 3 contracts at 1,003",
+        &share,
+        1_003,
+        3,
+    )?;
+    Ok(())
 }
