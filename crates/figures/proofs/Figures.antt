@@ -2,10 +2,13 @@
 use mathlib.Core.Path.{_≡_, refl, ap}
 use mathlib.Core.List.{List, [], _∷_, map}
 use Rattle.std.specs.shelf.Lists.{All}
+use Rattle.steps.specs.State.{customers, house, all-series, no-customer}
+use Rattle.steps.specs.Deals.{enough, forced}
+use Rattle.steps.specs.Steps.{posts}
 use Rattle.figures.specs.Worked.{Reply, Figure, Stands, Figures, reply, worked}
 
 computed : map (λ f. reply (f .asked)) worked ≡ map (λ f. f .written) worked
-unfolding worked
+unfolding customers house all-series no-customer enough forced posts worked
 computed = refl
 
 abbrev head : Reply → List Reply → Reply

@@ -21,7 +21,7 @@ pub fn figures_stand() -> usize
     ensures all { λ _. ⌜ Figures ⌝ }
     ensures count { λ r. ⌜ r ≡ length worked ⌝ }
 {
-    6
+    9
 }
 
 /// A session that ends at noon, with the band 900 to 1,100.
