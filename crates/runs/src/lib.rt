@@ -1,0 +1,7 @@
+//! What is true of every run of calls on a new room, for every book and every margin rule.
+ghost use Rattle.runs.specs.Notices.{NoticeLaw};
+
+/// Who comes under notice and who leaves it, exactly when; what stays as it is in between; and that the counts add up.
+pub fn notices_stand()
+    ensures { λ _. ⌜ NoticeLaw ⌝ }
+{}
