@@ -1,8 +1,12 @@
+pub mod Bought
 pub mod Counts
 pub mod Flags
+pub mod Ledgers
 pub mod Margins
 pub mod Positions
 pub mod Posts
 pub mod Refused
+pub mod Rows
 pub mod Signs
+pub mod Trading
 pub mod Turning

@@ -28,7 +28,7 @@ use Rattle.runs.proofs.Flags.{set-either, seat}
 use Rattle.runs.proofs.Refused.{all-none, all-front, not-refused, so-closes}
 use Rattle.runs.proofs.Signs.{unmoved, to-nought, closing-shrinks, sells, buys}
 
-passed : (s : State) (c : Call) → refusal s c ≡ None → All (λ o. o ≡ None) (room-refusals s c ++ (book-refuses s (posts s c) ∷ []))
+pub passed : (s : State) (c : Call) → refusal s c ≡ None → All (λ o. o ≡ None) (room-refusals s c ++ (book-refuses s (posts s c) ∷ []))
 passed s c accepted = all-none (room-refusals s c ++ (book-refuses s (posts s c) ∷ [])) accepted
 
 -- a position of a row
