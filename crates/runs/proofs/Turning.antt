@@ -212,5 +212,8 @@ holds (more {h = h} {s = s} {s′ = s′} c (Err f) r d) =
       };
     }
 
+pub kept-along : {h : List Event} {s : State} → Run h s → Kept s
+kept-along r = holds r .kept
+
 pub notice-law : NoticeLaw
 notice-law h s r = holds r .law
