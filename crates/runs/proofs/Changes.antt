@@ -28,6 +28,7 @@ use Rattle.runs.specs.Money.{Cash, cash, deposited, withdrawn, received, over-
 use Rattle.runs.specs.Trading.{mine, net, deal-by, ended}
 use Rattle.runs.proofs.Bought.{Sound, Explained, trade-fits, force-fits, not-ended}
 use Rattle.runs.proofs.Flags.{seat, set-either}
+use Rattle.runs.proofs.Margins.{cleared-at}
 use Rattle.runs.proofs.Positions.{passed}
 use Rattle.runs.proofs.Refused.{not-refused}
 use Rattle.runs.proofs.Rows.{Fits, place, set-at, same-place}
@@ -129,11 +130,6 @@ broker-apart : (o : Option ℕ) → isSome o ≡ true → Brokered o → (n : �
 broker-apart None some ok n is = absurd (both-ways false refl some)
 broker-apart (Some b) some ok n is =
     ne-eqb n b (λ e. absurd (let low = leb-true 57 b (and-parts (leb 57 b) (leb b 63) ok .0) in let high = leb-true n 56 (and-parts (leb 1 n) (leb n 56) is .1) in omega arith))
-
-pub cleared-at : (ss : List Series) (k : ℕ) → getD (map cleared ss) k no-series ≡ cleared (getD ss k no-series)
-cleared-at [] k = refl
-cleared-at (x ∷ xs) zero = refl
-cleared-at (x ∷ xs) (suc k) = cleared-at xs k
 
 module _ (s : State) (sound : Sound s) (ds : List Deal) (said : Explained s ds) (listed : Dealt s ds) (brokers : (k : ℕ) → Brokered (getD (s .customers) k no-customer .broker)) (n : ℕ) (is : is-customer n ≡ true) where
   -- terms that stay for every series that was dealt in

@@ -26,13 +26,13 @@ counted-none p [] a = refl
 counted-none p (x ∷ xs) a = omega (arith, ap one (a .0), counted-none p xs (a .1), sumBy-cons (λ n. one (p n)) x xs)
 
 -- what holds of every customer holds along their numbers
-from : (P : ℕ → Type 0) (a n : ℕ) → ((k : ℕ) → a ≤ k → k < a + n → P k) → All P (counting a n)
-from P a zero f = tt
-from P a (suc n) f = (f a (omega arith) (omega arith), from P (a + 1) n (λ k low high. f k (omega arith) (omega arith)))
+pub along : (P : ℕ → Type 0) (a n : ℕ) → ((k : ℕ) → a ≤ k → k < a + n → P k) → All P (counting a n)
+along P a zero f = tt
+along P a (suc n) f = (f a (omega arith) (omega arith), along P (a + 1) n (λ k low high. f k (omega arith) (omega arith)))
 
 pub all-customers : (P : ℕ → Type 0) → ((n : ℕ) → is-customer n ≡ true → P n) → All P (counting 1 customers)
 all-customers P f =
-    from P 1 customers (λ n low high. f n ((λ i. le-leb 1 n low i && le-leb n 56 (omega (arith, sizes)) i)))
+    along P 1 customers (λ n low high. f n ((λ i. le-leb 1 n low i && le-leb n 56 (omega (arith, sizes)) i)))
 
 -- the two ways in which a flag is told apart
 pub or-apart : (b c : Bool) → one (b || (not b && c)) ≡ one b + one (not b && c)

@@ -70,24 +70,27 @@ module _ (s : State) (fits : refusal s call.Begin ≡ None) where
       either true = refl
       either false = refl
 
+begun-is : (c : Call) (a : Answer) → c ≡ call.Begin → is-begin c (Ok a) ≡ true
+begun-is c a e = ap (λ x. is-begin x (Ok a)) e
+
 -- an accepted call leaves the room open
-stays : (s : State) (c : Call) → (c ≡ call.Begin) ⊎ (began s ≡ true) → (c ≡ call.Begin → ⊥) → began s ≡ true
-stays s c (inl e) other = absurd (other e)
-stays s c (inr b) other = b
+stays : (s : State) (c : Call) → refusal s c ≡ None → is-begin c (Ok (answer s c)) ≡ false → began s ≡ true
+stays s c fits other =
+    elim (took s c fits) [ inl e ↦ absurd (both-ways (is-begin c (Ok (answer s c))) other (begun-is c (answer s c) e)) | inr b ↦ b ]
 
 began-next : (s : State) (c : Call) → refusal s c ≡ None → began (next s c) ≡ true
 began-next s call.Begin fits = refl
-began-next s (call.Enrol c b) fits = stays s (call.Enrol c b) (took s (call.Enrol c b) fits) (λ e. let z : _≡_ {A = ℕ} 0 1 = cc in absurd (omega arith))
-began-next s (call.List size limit i price fee) fits = stays s (call.List size limit i price fee) (took s (call.List size limit i price fee) fits) (λ e. let z : _≡_ {A = ℕ} 0 1 = cc in absurd (omega arith))
-began-next s (call.Deposit n a) fits = stays s (call.Deposit n a) (took s (call.Deposit n a) fits) (λ e. let z : _≡_ {A = ℕ} 0 1 = cc in absurd (omega arith))
-began-next s (call.Withdraw n a) fits = stays s (call.Withdraw n a) (took s (call.Withdraw n a) fits) (λ e. let z : _≡_ {A = ℕ} 0 1 = cc in absurd (omega arith))
-began-next s (call.Trade b o i n q) fits = stays s (call.Trade b o i n q) (took s (call.Trade b o i n q) fits) (λ e. let z : _≡_ {A = ℕ} 0 1 = cc in absurd (omega arith))
+began-next s (call.Enrol c b) fits = stays s (call.Enrol c b) fits refl
+began-next s (call.List size limit i price fee) fits = stays s (call.List size limit i price fee) fits refl
+began-next s (call.Deposit n a) fits = stays s (call.Deposit n a) fits refl
+began-next s (call.Withdraw n a) fits = stays s (call.Withdraw n a) fits refl
+began-next s (call.Trade b o i n q) fits = stays s (call.Trade b o i n q) fits refl
 began-next s call.Late fits = refl
 began-next s call.Shut fits = refl
-began-next s (call.Mark i q) fits = stays s (call.Mark i q) (took s (call.Mark i q) fits) (λ e. let z : _≡_ {A = ℕ} 0 1 = cc in absurd (omega arith))
-began-next s (call.Final i q) fits = stays s (call.Final i q) (took s (call.Final i q) fits) (λ e. let z : _≡_ {A = ℕ} 0 1 = cc in absurd (omega arith))
-began-next s (call.Force c o i offer q) fits = stays s (call.Force c o i offer q) (took s (call.Force c o i offer q) fits) (λ e. let z : _≡_ {A = ℕ} 0 1 = cc in absurd (omega arith))
-began-next s (call.Cover c) fits = stays s (call.Cover c) (took s (call.Cover c) fits) (λ e. let z : _≡_ {A = ℕ} 0 1 = cc in absurd (omega arith))
+began-next s (call.Mark i q) fits = stays s (call.Mark i q) fits refl
+began-next s (call.Final i q) fits = stays s (call.Final i q) fits refl
+began-next s (call.Force c o i offer q) fits = stays s (call.Force c o i offer q) fits refl
+began-next s (call.Cover c) fits = stays s (call.Cover c) fits refl
 began-next s call.Notices fits = refl
 
 not-begun : (c : Call) (f : Fault) → is-begin c (Err f) ≡ false
@@ -214,9 +217,6 @@ module _ (h : List Event) (s : State) (ds : List Deal) (p : Purse h s ds) (k : K
   whole-begin =
       total-next h s ds call.Begin p k l fits ∙ ap (λ z. z +ℤ (pos 0 -ℤ pos 0)) (empty-total (s .balances) (was-empty s fits))
       ∙ sym (λ i. (pos 0 +ℤ calm paid-in refl i) -ℤ (pos 0 +ℤ calm paid-out refl i))
-
-begun-is : (c : Call) (a : Answer) → c ≡ call.Begin → is-begin c (Ok a) ≡ true
-begun-is c a e = ap (λ x. is-begin x (Ok a)) e
 
 or-true : (b : Bool) → (b || true) ≡ true
 or-true true = refl

@@ -26,8 +26,9 @@ use Rattle.steps.specs.Refusals.{in-phase, phases-of}
 use Rattle.steps.specs.Steps.{under-broker, noted, moved, lift, next, refusal, trade-deal, answer, settled-at, ended-at, customers-after}
 use Rattle.runs.specs.Trading.{deal-by}
 use Rattle.runs.proofs.Bought.{trade-fits, force-fits, force-series}
-use Rattle.runs.proofs.Changes.{Dealt, Brokered, cleared-at}
+use Rattle.runs.proofs.Changes.{Dealt, Brokered}
 use Rattle.runs.proofs.Flags.{set-either}
+use Rattle.runs.proofs.Margins.{cleared-at}
 use Rattle.runs.proofs.Positions.{passed}
 use Rattle.runs.proofs.Refused.{not-refused}
 use Rattle.runs.proofs.Rows.{Fits}

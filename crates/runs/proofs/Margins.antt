@@ -32,7 +32,7 @@ short-of-both (pos x) initial minimum h short = lt-leb initial x (omega (arith, 
 short-of-both (negsuc x) initial minimum h short = refl
 
 -- marks that are cleared ask the same
-cleared-at : (ss : List Series) (n : ℕ) → getD (map cleared ss) n no-series ≡ cleared (getD ss n no-series)
+pub cleared-at : (ss : List Series) (n : ℕ) → getD (map cleared ss) n no-series ≡ cleared (getD ss n no-series)
 cleared-at [] n = refl
 cleared-at (x ∷ xs) zero = refl
 cleared-at (x ∷ xs) (suc n) = cleared-at xs n

@@ -27,6 +27,7 @@ use Rattle.runs.specs.Money.{cash, paid-in, paid-out}
 use Rattle.runs.specs.Trading.{mine}
 use Rattle.runs.proofs.Bought.{trade-fits, force-fits}
 use Rattle.runs.proofs.Changes.{Brokered}
+use Rattle.runs.proofs.Counts.{along}
 use Rattle.runs.proofs.Flags.{sizes}
 use Rattle.runs.proofs.Ledgers.{over, over-same, over-plus, over-minus, over-none, one-in}
 use Rattle.runs.proofs.Posts.{houses}
@@ -44,12 +45,8 @@ unfolding posts
 total-posts s c = total-map (post s c) (counting 1 house)
 
 -- along numbers
-all-from : (P : ℕ → Type 0) (a m : ℕ) → ((n : ℕ) → a ≤ n → n < a + m → P n) → All P (counting a m)
-all-from P a zero f = tt
-all-from P a (suc m) f = (f a (omega arith) (omega arith), all-from P (a + 1) m (λ n low high. f n (omega arith) (omega arith)))
-
 over-counted : (f g : ℕ → ℤ) (a m : ℕ) → ((n : ℕ) → a ≤ n → n < a + m → f n ≡ g n) → over f (counting a m) ≡ over g (counting a m)
-over-counted f g a m e = over-same f g (counting a m) (all-from (λ n. f n ≡ g n) a m e)
+over-counted f g a m e = over-same f g (counting a m) (along (λ n. f n ≡ g n) a m e)
 
 over-split : (f : ℕ → ℤ) (a m k : ℕ) → over f (counting a (m + k)) ≡ over f (counting a m) +ℤ over f (counting (a + m) k)
 over-split f a zero k = rw (zero-add k, add-zero a) (omega (arith, linear))
