@@ -1,0 +1,3 @@
+//! The day sheet: from bytes to calls, from answers to bytes.
+
+pub mod number;
