@@ -1,3 +1,5 @@
 pub mod Columns
 pub mod Digits
 pub mod Fills
+pub mod Entries
+pub mod Lines
