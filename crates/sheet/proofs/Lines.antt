@@ -7,8 +7,8 @@ use mathlib.Core.Logic.{⊎-elim}
 use native.Mathlib.Omega.{arith}
 use lib.Dec.{eqb, ltb}
 use lib.ListN.{length, getD, drop}
-use Rattle.std.proofs.shelf.Tests.{ltb-true, lt-ltb, eqb-true, cases-bool, and-parts, and-from}
-use Rattle.std.specs.Options.{okOr}
+use Rattle.std.proofs.shelf.Tests.{ltb-true, lt-ltb, eqb-true, cases-bool, and-parts, and-from, cond-both}
+use Rattle.std.specs.Options.{okOr, Cases}
 use Rattle.std.specs.declared.option.Option.{Option}
 use Rattle.std.specs.declared.option.Option.the-variants.{Some, None}
 use Rattle.std.specs.declared.result.Result.{Result}
@@ -23,7 +23,7 @@ use Rattle.sheet.specs.declared.kind.Uses.{Uses}
 use Rattle.sheet.specs.declared.kind.Numbers.{Numbers}
 use Rattle.sheet.specs.Numbers.{column-of, fits, number-of, Shows}
 use Rattle.sheet.specs.Kinds.{kind-of, code-of, uses-of, call-of, kind-in, numbers-in, numbers}
-use Rattle.sheet.specs.Lines.{field-of, fields-of, then, ended, entry-of, rest-of, line-of, fitting, kind-said, call-said, coded-said, line-said, ReadsLine}
+use Rattle.sheet.specs.Lines.{field-of, fields-of, then, ended, entry-of, rest-of, line-of, fitting, kind-said, call-said, coded-said, line-said, written-of, ReadsLine}
 use Rattle.sheet.proofs.Columns.{column-none, column-more, column-read, read-shows}
 use Rattle.sheet.proofs.Entries.{Entered, Taken, field-written, then-read, then-ok, not-ok}
 
@@ -279,3 +279,7 @@ pub small : (u : Uses) (xs : List ℕ) (n : Numbers) → fields-of u xs ≡ Ok n
 small u xs n e =
     let all = fields-written u xs n e .entered in
     (omega (arith, all .first .fit), (omega (arith, all .second .fit), omega (arith, all .series .fit)))
+
+-- a line that is written is read back
+pub written-read : (c : Call) → Cases (written-of c) (Unit {0}) (λ line. line-said line ≡ Ok c)
+written-read c = cond-both (fitting (numbers-in c)) (Some (line-of c)) None (λ o. Cases o (Unit {0}) (λ line. line-said line ≡ Ok c)) (λ fit. line-read c fit) (λ over. tt)

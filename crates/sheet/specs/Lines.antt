@@ -96,6 +96,9 @@ line-of call = column-of 2 (code-of (kind-in call)) ++ rest-of (uses-of (kind-in
 abbrev pub fitting : Numbers → Bool
 fitting n = fits 5 (n .first) && (fits 5 (n .second) && (fits 3 (n .series) && (fits 5 (n .count) && (fits 11 (n .price) && fits 18 (n .amount)))))
 
+abbrev pub written-of : Call → Option (List ℕ)
+written-of call = cond (fitting (numbers-in call)) (Some (line-of call)) None
+
 -- a line is read as a call exactly if it is the line that would be written for that call
 pub record ReadsLine (line : List ℕ) (r : Result Call Fault) : Type 0 where
   pub written : (call : Call) → r ≡ Ok call → line ≡ line-of call

@@ -1,12 +1,17 @@
 //! A line of the sheet: a code of two bytes, and the rest by its call.
 ghost use mathlib.Core.Path.{_≡_};
-ghost use Rattle.sheet.specs.Lines.{blank, value-of, field-of, fields-of, ended, unlent, kind-said, call-said, coded-said, line-said, ReadsLine};
+ghost use Rattle.std.specs.Options.{Cases};
+ghost use Rattle.std.specs.declared.result.Result.the-variants.{Ok};
+ghost use Rattle.sheet.specs.Lines.{blank, value-of, field-of, fields-of, ended, unlent, kind-said, call-said, coded-said, line-said, written-of, ReadsLine};
 use crate::kind::Kind;
 use crate::kind::Numbers;
 use crate::kind::Uses;
 use crate::kind::call_with;
+use crate::kind::kind_in;
 use crate::kind::kind_with;
+use crate::kind::numbers_in;
 use crate::number::read_number;
+use crate::row::put;
 use terms::call::Call;
 use terms::fault::Fault;
 
@@ -114,4 +119,31 @@ pub fn read_line(line: &[u8]) -> Result<Call, Fault>
         [tens, units, rest @ ..] => read_coded(*tens, *units, rest),
         _ => Err(Fault::Field { place: 1 }),
     }
+}
+
+/// Writes the fields of a call side by side.
+fn fields_in_line(call: Call) -> Option<[u8; 50]>
+    ensures { λ r. ⌜ r ≡ written-of call ⌝ }
+{
+    let kind = kind_in(call);
+    let uses = kind.uses();
+    let numbers = numbers_in(call);
+    let mut line = [b'\n'; 50];
+    put(&mut line, 0, 2, true, kind.code())?;
+    put(&mut line, 2, 7, uses.first, numbers.first)?;
+    put(&mut line, 7, 12, uses.second, numbers.second)?;
+    put(&mut line, 12, 15, uses.series, numbers.series)?;
+    put(&mut line, 15, 20, uses.count, numbers.count)?;
+    put(&mut line, 20, 31, uses.price, numbers.price)?;
+    put(&mut line, 31, 49, uses.amount, numbers.amount)?;
+    line[49] = b'\n';
+    Some(line)
+}
+
+/// The line of a call, if its numbers fit their fields. It is read as that call.
+pub fn write_call(call: Call) -> Option<[u8; 50]>
+    ensures value { λ r. ⌜ r ≡ written-of call ⌝ }
+    ensures back { λ r. ⌜ Cases r (Unit {0}) (λ line. line-said line ≡ Ok call) ⌝ }
+{
+    fields_in_line(call)
 }
