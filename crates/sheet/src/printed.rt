@@ -4,12 +4,10 @@ ghost use Rattle.std.specs.Options.{Cases};
 ghost use Rattle.sheet.specs.Printed.{answered, printed-of, ShowsNumbers};
 use crate::row::put;
 use terms::call::Answer;
-use terms::call::AnswerDebug;
-use terms::call::AnswerPartialEq;
 use terms::fault::Fault;
 
 /// What is printed for one line of the sheet: its number from 1, the number of the refusal or 0, its place, and the answer.
-#[derive(Clone, Copy, PartialEq, Eq, Debug)]
+#[derive(Clone, Copy)]
 pub struct PrintedLine {
     pub line: u32,
     pub number: u32,
