@@ -1,14 +1,14 @@
 -- What is written in a column is read there, and what is read is what would be written.
 use Prim.Native.Nat.{ℕ, zero, suc, _+_, _-_, _*_, _/_, _%_, _^_, _<_, _≤_}
-use mathlib.Core.Path.{_≡_, refl, ap, sym, _∙_, subst}
-use mathlib.Core.Bool.{Bool, true, false, cond, not, _&&_}
+use mathlib.Core.Path.{_≡_, refl, ap, sym, _∙_}
+use mathlib.Core.Bool.{Bool, false, cond, not, _&&_}
 use mathlib.Core.List.{List, [], _∷_}
-use mathlib.Core.Logic.{inl, inr, ⊎-elim}
+use mathlib.Core.Logic.{⊎-elim}
 use native.Mathlib.Nat.{pow-suc, one-le-pow, div-div-eq-div-mul, div-one, div-eq-of-lt, lt-mul-div-succ, mul-one, pow-le-pow-right}
 use native.Mathlib.Omega.{arith}
 use lib.Dec.{eqb, leb}
-use lib.ListN.{length, getD, drop}
-use Rattle.std.proofs.shelf.Tests.{le-leb, ne-eqb, eq-eqb, cases-eq, cases-lt, eqb-true, eqb-false, leb-true, and-parts, cases-bool}
+use lib.ListN.{length}
+use Rattle.std.proofs.shelf.Tests.{ne-eqb, cases-eq, cases-lt, eqb-true, eqb-false, leb-true, and-parts, cases-bool}
 use Rattle.std.specs.declared.option.Option.{Option}
 use Rattle.std.specs.declared.option.Option.the-variants.{Some, None}
 use Rattle.sheet.specs.Numbers.{glyph, column-of, digits-of, word-of, nought-of, number-of, Shows, Reads}

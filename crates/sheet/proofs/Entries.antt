@@ -16,7 +16,6 @@ use Rattle.std.specs.declared.result.Result.{Result}
 use Rattle.std.specs.declared.result.Result.the-variants.{Ok, Err}
 use Rattle.terms.specs.declared.fault.Fault.{Fault}
 use Rattle.terms.specs.declared.fault.Fault.the-variants.{Field}
-use Rattle.sheet.specs.Numbers.{column-of, number-of, Shows}
 use Rattle.sheet.specs.Lines.{blank, value-of, with-rest, field-of, then, entry-of}
 use Rattle.sheet.proofs.Columns.{length-column, column-read, read-shows, some-power}
 

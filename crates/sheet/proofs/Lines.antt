@@ -1,11 +1,11 @@
 -- A line is read as a call exactly if it is the line that is written for that call.
 use Prim.Native.Nat.{ℕ, _^_, _<_}
 use mathlib.Core.Path.{_≡_, refl, ap, sym, _∙_, subst}
-use mathlib.Core.Bool.{Bool, true, false, cond, _&&_}
+use mathlib.Core.Bool.{Bool, true, cond}
 use mathlib.Core.List.{List, [], _∷_, _++_}
 use mathlib.Core.Logic.{⊎-elim}
 use native.Mathlib.Omega.{arith}
-use lib.Dec.{eqb, ltb}
+use lib.Dec.{eqb}
 use lib.ListN.{length, getD, drop}
 use Rattle.std.proofs.shelf.Tests.{ltb-true, lt-ltb, eqb-true, cases-bool, and-parts, and-from, cond-both}
 use Rattle.std.specs.Options.{okOr, Cases}
@@ -21,10 +21,10 @@ use Rattle.sheet.specs.declared.kind.Kind.{Kind}
 use Rattle.sheet.specs.declared.kind.Kind.the-variants as kind
 use Rattle.sheet.specs.declared.kind.Uses.{Uses}
 use Rattle.sheet.specs.declared.kind.Numbers.{Numbers}
-use Rattle.sheet.specs.Numbers.{column-of, fits, number-of, Shows}
+use Rattle.sheet.specs.Numbers.{column-of, fits, number-of}
 use Rattle.sheet.specs.Kinds.{kind-of, code-of, uses-of, call-of, kind-in, numbers-in, numbers}
 use Rattle.sheet.specs.Lines.{field-of, fields-of, then, ended, entry-of, rest-of, line-of, fitting, kind-said, call-said, coded-said, line-said, written-of, ReadsLine}
-use Rattle.sheet.proofs.Columns.{column-none, column-more, column-read, read-shows}
+use Rattle.sheet.proofs.Columns.{column-read, read-shows}
 use Rattle.sheet.proofs.Entries.{Entered, Taken, field-written, then-read, then-ok, not-ok}
 
 -- numbers that may stand in the fields of a line

@@ -1,10 +1,10 @@
 -- A row of bytes that is written field by field.
 use Prim.Native.Nat.{ℕ, suc}
-use mathlib.Core.Path.{_≡_, refl, ap, sym, _∙_}
+use mathlib.Core.Path.{_≡_, refl, ap, _∙_}
 use mathlib.Core.Bool.{true}
 use mathlib.Core.List.{List, [], _∷_, _++_}
 use native.Mathlib.Omega.{arith}
-use lib.ListN.{length, take, drop, set}
+use lib.ListN.{length, take, set}
 use Rattle.std.proofs.shelf.Lists.{append-assoc, drop-all, set-split}
 use Rattle.sheet.specs.Numbers.{column-of}
 use Rattle.sheet.specs.Lines.{entry-of}

@@ -6,7 +6,7 @@ use lib.ListN.{take, set}
 use borrow.Author.Needs.{needs}
 use Rattle.std.specs.declared.option.Option.the-variants.{Some, None}
 use Rattle.sheet.specs.Numbers.{column-of}
-use Rattle.sheet.specs.Kinds.{numbers-in, code-of, uses-of, kind-in}
+use Rattle.sheet.specs.Kinds.{numbers-in, code-of, uses-of}
 use Rattle.sheet.specs.Lines.{fitting, line-of, entry-of, rest-of}
 use Rattle.sheet.proofs.Rows.{row-end, row-back, used-entry}
 use Rattle.sheet.proofs.line.fields_in_line.Needs as need

@@ -1,4 +1,4 @@
-use mathlib.Core.Path.{_≡_, ap, sym, _∙_}
+use mathlib.Core.Path.{ap, sym, _∙_}
 use mathlib.Core.Bool.{cond, false}
 use lib.ListN.{drop, getD}
 use Prim.Native.Nat.{_+_}

@@ -1,4 +1,4 @@
-use mathlib.Core.Path.{_∙_, sym}
+use mathlib.Core.Path.{sym}
 use Rattle.sheet.proofs.Lines.{small}
 use Rattle.sheet.proofs.line.read_call.Needs as need
 

@@ -1,5 +1,5 @@
-use mathlib.Core.Path.{_≡_, ap, sym, _∙_}
-use mathlib.Core.Bool.{cond, false, true}
+use mathlib.Core.Path.{ap, sym, _∙_}
+use mathlib.Core.Bool.{cond}
 use lib.ListN.{length, replicate}
 use Rattle.sheet.specs.Numbers.{column-of}
 use Rattle.sheet.specs.Lines.{entry-of}
