@@ -1,18 +1,13 @@
 -- One step through a text.
-use Prim.Native.Nat.{ℕ, _+_, _-_, _*_, _^_, _<_, _≤_}
-use mathlib.Core.Path.{_≡_, refl, ap, sym, _∙_}
-use mathlib.Core.Bool.{Bool, true, false, cond, _&&_}
+use Prim.Native.Nat.{ℕ, _+_, _<_, _≤_}
+use mathlib.Core.Path.{_≡_, ap, sym, _∙_}
+use mathlib.Core.Bool.{true, false, cond}
 use mathlib.Core.List.{List, [], _∷_, _++_}
-use native.Mathlib.Nat.{pow-suc, pow-le-pow-right}
-use native.Mathlib.Numerals.{add-one}
-use native.Mathlib.Omega.{arith}
-use lib.Dec.{eqb, leb}
+use lib.Dec.{eqb}
 use lib.ListN.{length, getD, take, drop}
 use Rattle.std.proofs.shelf.Lists.{drop-more, append-assoc, append-nil, at-drop-more, at-drop-all, take-all, take-more}
-use Rattle.std.proofs.shelf.Tests.{le-leb, eq-eqb, ne-eqb}
-use Rattle.std.specs.declared.option.Option.{Option}
-use Rattle.std.specs.declared.option.Option.the-variants.{Some, None}
-use Rattle.tape.specs.Words.{before, after, trimmed-of, digits-of, number-of}
+use Rattle.std.proofs.shelf.Tests.{ne-eqb}
+use Rattle.tape.specs.Words.{before, after, trimmed-of}
 
 -- as far as a search for the byte c came
 pub record Sought (c i : ℕ) (text : List ℕ) : Type 0 where
@@ -45,31 +40,6 @@ module _ (c i : ℕ) (text : List ℕ) (all : length text ≤ i) (so-far : Sough
 
   pub lost-rest : [] ≡ after c text
   lost-rest = sym (at-drop-all (after c) text i all) ∙ so-far .rest
-
--- one more digit
-pub digit-on : (n i : ℕ) (word : List ℕ) → i < length word → 48 ≤ getD word i 0 → getD word i 0 ≤ 57 → digits-of n (drop i word) ≡ digits-of (n * 10 + (getD word i 0 - 48)) (drop (i + 1) word)
-digit-on n i word within low high =
-    let b = getD word i 0 in
-    let test : (leb 48 b && leb b 57) ≡ true = (λ j. le-leb 48 b low j && le-leb b 57 high j) in
-    at-drop-more (digits-of n) word i 0 within ∙ ap (λ t. cond t (digits-of (n * 10 + (b - 48)) (drop (i + 1) word)) None) test
-
-pub no-digit : (n i : ℕ) (word : List ℕ) → i < length word → (leb 48 (getD word i 0) && leb (getD word i 0) 57) ≡ false → digits-of n (drop i word) ≡ None
-no-digit n i word within test =
-    let b = getD word i 0 in
-    at-drop-more (digits-of n) word i 0 within ∙ ap (λ t. cond t (digits-of (n * 10 + (b - 48)) (drop (i + 1) word)) None) test
-
--- a number of i digits, and one of i + 1
-pub tenfold : (n d i : ℕ) → n < 10 ^ i → d < 10 → n * 10 + d < 10 ^ (i + 1)
-tenfold n d i h k = rw (add-one, pow-suc) (omega arith)
-
-pub below-18 : (n i : ℕ) → n < 10 ^ i → i ≤ 18 → n < 1000000000000000000
-below-18 n i h k = let p : 10 ^ i ≤ 10 ^ 18 = pow-le-pow-right (omega arith) k in omega arith
-
--- a word of 1 to 18 bytes
-pub number-is : (word : List ℕ) → 1 ≤ length word → length word ≤ 18 → number-of word ≡ digits-of 0 word
-number-is word some few =
-    let test : (leb 1 (length word) && leb (length word) 18) ≡ true = (λ j. le-leb 1 (length word) some j && le-leb (length word) 18 few j) in
-    ap (λ t. cond t (digits-of 0 word) None) test
 
 -- a text by its first byte
 pub trim-space : (text : List ℕ) → 0 < length text → getD text 0 0 ≡ 32 → trimmed-of text ≡ trimmed-of (drop 1 text)

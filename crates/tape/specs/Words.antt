@@ -1,12 +1,11 @@
 -- Bytes cut into lines, words and numbers.
-use Prim.Native.Nat.{ℕ, _+_, _-_, _*_}
-use mathlib.Core.Path.{_≡_}
-use mathlib.Core.Bool.{Bool, true, false, cond, _&&_}
+use Prim.Native.Nat.{ℕ}
+use mathlib.Core.Bool.{cond}
 use mathlib.Core.List.{List, [], _∷_}
-use lib.Dec.{eqb, leb}
-use lib.ListN.{length}
+use lib.Dec.{eqb}
 use Rattle.std.specs.declared.option.Option.{Option}
 use Rattle.std.specs.declared.option.Option.the-variants.{Some, None}
+use Rattle.sheet.specs.Numbers.{number-of}
 
 -- what stands before the first byte c, and what stands after it
 abbrev pub before : ℕ → List ℕ → List ℕ
@@ -22,21 +21,12 @@ abbrev pub trimmed-of : List ℕ → List ℕ
 trimmed-of [] = []
 trimmed-of (b ∷ bs) = cond (eqb b 32) (trimmed-of bs) (b ∷ bs)
 
--- the number of digits after those that make n; none where another byte stands among them
-abbrev pub digits-of : ℕ → List ℕ → Option ℕ
-digits-of n [] = Some n
-digits-of n (b ∷ bs) = cond (leb 48 b && leb b 57) (digits-of (n * 10 + (b - 48)) bs) None
-
--- 1 to 18 digits
-abbrev pub number-of : List ℕ → Option ℕ
-number-of word = cond (leb 1 (length word) && leb (length word) 18) (digits-of 0 word) None
-
--- the first number of a text, and what stands after it
+-- the first number of a text, written as on the day sheet, and what stands after it
 abbrev pub with-rest : Option ℕ → List ℕ → Option (ℕ × List ℕ)
 with-rest None rest = None
 with-rest (Some n) rest = Some (n, rest)
 
-abbrev pub first-number : List ℕ → Option (ℕ × List ℕ)
+unfoldable pub first-number : List ℕ → Option (ℕ × List ℕ)
 first-number text = with-rest (number-of (before 32 (trimmed-of text))) (after 32 (trimmed-of text))
 
 -- a text of one number, of two and of three

@@ -2,7 +2,8 @@
 ghost use mathlib.Core.Path.{_≡_};
 ghost use Rattle.std.specs.Options.{mapped};
 ghost use Rattle.std.specs.shelf.Text.{sameBytes};
-ghost use Rattle.tape.specs.Words.{before, after, trimmed-of, number-of, first-number, one-of, two-of, three-of};
+ghost use Rattle.tape.specs.Words.{before, after, trimmed-of, first-number, one-of, two-of, three-of};
+use sheet::number::read_number;
 
 pub(crate) const SPACE: u8 = b' ';
 
@@ -36,29 +37,12 @@ pub(crate) fn is_word(word: &[u8], name: &str) -> bool
     word == name.as_bytes()
 }
 
-/// The number that a word writes with 1 to 18 digits.
-fn number(word: &[u8]) -> Option<u64>
-    ensures { λ r. ⌜ r ≡ number-of (now (word .entry)) ⌝ }
-{
-    if word.is_empty() || word.len() > 18 {
-        return None;
-    }
-    let mut so_far: u64 = 0;
-    for b in word {
-        if *b < b'0' || *b > b'9' {
-            return None;
-        }
-        so_far = so_far * 10 + u64::from(*b - b'0');
-    }
-    Some(so_far)
-}
-
 /// The first number of a text, and what stands after it.
 fn take_number(text: &[u8]) -> Option<(u64, &[u8])>
     ensures { λ r. ⌜ mapped (λ x. (x .0, now (x .1))) r ≡ first-number (now (text .entry)) ⌝ }
 {
     let (word, rest) = cut(trimmed(text), SPACE);
-    let value = number(word)?;
+    let value = read_number(word)?;
     Some((value, rest))
 }
 
