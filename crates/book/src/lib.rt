@@ -1,4 +1,5 @@
 //! A book: 64 balances and the lines that are left in it, postings made all or none, and the book that is a table.
+#![tactic(auto)]
 
 mod balance;
 mod cost;

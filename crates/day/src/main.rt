@@ -1,5 +1,7 @@
 //! Clears a day: reads its sheet from standard input and prints the answers, over a table book in which every balance is
 //! 0 and a margin of 5,000 rials a contract, 3,500 at least, in every series.
+#![tactic(auto)]
+
 use anyhow::anyhow;
 use book::TableBook;
 use clearing::Room;

@@ -1,4 +1,5 @@
 //! The day sheet carried out on a room: from the bytes of a sheet to the bytes of its answers.
+#![tactic(auto)]
 
 mod fits;
 mod lines;

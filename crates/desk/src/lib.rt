@@ -1,4 +1,5 @@
 //! The clearing desk: what a room holds, and what each call does to it before anybody is lifted out of a notice.
+#![tactic(auto)]
 
 mod amounts;
 mod bargain;

@@ -1,4 +1,5 @@
 //! What positions ask, what a deal and a mark post, and the least count that a forced close takes.
+#![tactic(auto)]
 
 pub mod deal;
 pub mod force;

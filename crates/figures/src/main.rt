@@ -1,4 +1,6 @@
 //! The worked figures: proved of the definitions, and tried with the code.
+#![tactic(auto)]
+
 ghost use Rattle.std.specs.Prelude.{◌≡◌, length};
 ghost use Rattle.figures.specs.Worked as Worked;
 ghost use Rattle.figures.specs.Worked.{Figures, worked};

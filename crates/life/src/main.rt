@@ -1,4 +1,6 @@
 //! The whole life of a contract in one run: listed, traded, marked to market day by day, and ended.
+#![tactic(auto)]
+
 use crate::rials::Rials;
 use crate::run::{BROKER, Run};
 use anyhow::anyhow;

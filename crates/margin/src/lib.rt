@@ -1,4 +1,5 @@
 //! Margin rules: what a position has to be covered by, the initial and the minimum margin.
+#![tactic(auto)]
 
 pub mod additional;
 pub mod flat;

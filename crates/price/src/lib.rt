@@ -1,4 +1,5 @@
 //! The settlement price of a series for one day: the first of five rules that applies.
+#![tactic(auto)]
 
 pub mod day;
 mod settlement;

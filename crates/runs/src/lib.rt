@@ -1,4 +1,6 @@
 //! What is true of every run of calls on a new room, for every book and every margin rule.
+#![tactic(auto)]
+
 ghost use Rattle.runs.specs.Law.{RunsExist};
 ghost use Rattle.runs.specs.Money.{MoneyLaw};
 ghost use Rattle.runs.specs.Notices.{NoticeLaw};

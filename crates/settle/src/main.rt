@@ -1,4 +1,6 @@
 //! The settlement price of a day: reads its tape from standard input, prints the price and its rule.
+#![tactic(auto)]
+
 use crate::report::{answer_line, refusal_line};
 use price::settlement_price;
 use std::io::Read;

@@ -1,4 +1,5 @@
 //! The day sheet: from bytes to calls, from answers to bytes.
+#![tactic(auto)]
 
 pub mod cuts;
 mod kind;

@@ -1,4 +1,6 @@
 //! Sheets tried on a room: empty, torn, too long, with lines that are no calls, and one of a thousand lines.
+#![tactic(auto)]
+
 use anyhow::anyhow;
 use book::{Book, TableBook};
 use clearing::Room;

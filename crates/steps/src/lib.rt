@@ -1,6 +1,8 @@
 //! The clearing steps: what each of the thirteen calls refuses, posts and changes, as a definition.
 //!
 //! The definition stands in `specs/`; the types here are those of the state that it speaks of.
+#![tactic(auto)]
+
 ghost use Rattle.std.specs.Prelude.{◌≡◌};
 ghost use Rattle.steps.specs.Phases.{phase_number};
 

@@ -1,4 +1,5 @@
 //! The tables of a clearing room: its customers and its series, as plain records.
+#![tactic(auto)]
 
 pub mod customer;
 pub mod customers;

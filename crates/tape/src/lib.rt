@@ -1,4 +1,6 @@
 //! The tape: a day's trades and quotations as plain text, one item a line.
+#![tactic(auto)]
+
 ghost use Rattle.std.specs.Prelude.{◌≡◌};
 ghost use Rattle.tape.specs.Tapes.{Gives, Reads, finish};
 ghost use Rattle.tape.specs.declared.item.Refusal.TheVariants.{Memory};

@@ -1,4 +1,6 @@
 //! The room tried beyond its proofs: calls in words, each with the answer that it got.
+#![tactic(auto)]
+
 use crate::asked::{deposit, enrol, force, list, mark, trade};
 use crate::trial::Trial;
 use anyhow::anyhow;
