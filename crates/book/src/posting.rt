@@ -13,7 +13,7 @@ pub type NetAmounts = [i64; ACCOUNTS as usize];
 
 // The lowest account whose balance would leave its bounds.
 fn lowest_out<const N: u64, B: Book<N>>(book: &B, amounts: &NetAmounts) -> Option<u32>
-    ensures answer { result ≡ lowest_out 1 (balances book.now) amounts.now }
+    ensures answer { result ≡ lowest_out 1 (B.balances book.now) amounts.now }
 {
     for i in 0..ACCOUNTS {
         let account = i + 1;
@@ -39,8 +39,8 @@ fn count_postings(amounts: &NetAmounts) -> u64
 
 // Tests all postings and makes none.
 fn test_all<const N: u64, B: Book<N>>(book: &B, amounts: &NetAmounts) -> Result<(), Fault>
-    ensures answer { result ≡ all_answer (balances book.now) (lines book.now) N amounts.now }
-    ensures reason { Reason (balances book.now) (lines book.now) N amounts.now result }
+    ensures answer { result ≡ all_answer (B.balances book.now) (B.lines book.now) N amounts.now }
+    ensures reason { Reason (B.balances book.now) (B.lines book.now) N amounts.now result }
 {
     if let Some(account) = lowest_out(book, amounts) {
         return Err(Fault::OutOfBounds { account });
@@ -53,14 +53,14 @@ fn test_all<const N: u64, B: Book<N>>(book: &B, amounts: &NetAmounts) -> Result<
 
 // Makes postings that were tested, so that none is refused.
 fn make_all<const N: u64, B: Book<N>>(book: &mut B, amounts: &NetAmounts) -> Result<(), Fault>
-    requires inside { lowest_out 1 (balances book.old) amounts.now ≡ None }
-    requires paid { N * postings amounts.now ≤ lines book.old }
+    requires inside { lowest_out 1 (B.balances book.old) amounts.now ≡ None }
+    requires paid { N * postings amounts.now ≤ B.lines book.old }
     ensures made { result ≡ Ok tt }
-    ensures after { balances book.new ≡ added (balances book.old) amounts.now }
-    ensures spent { lines book.new ≡ lines book.old - N * postings amounts.now }
-    ensures place { kept book.old book.new }
-    ensures each { (n : ℕ) → of_account (balances book.new) n ≡ of_account (balances book.old) n +ℤ of_account amounts.now n }
-    ensures sum { total (balances book.new) ≡ total (balances book.old) +ℤ total amounts.now }
+    ensures after { B.balances book.new ≡ added (B.balances book.old) amounts.now }
+    ensures spent { B.lines book.new ≡ B.lines book.old - N * postings amounts.now }
+    ensures place { B.kept book.old book.new }
+    ensures each { (n : ℕ) → of_account (B.balances book.new) n ≡ of_account (B.balances book.old) n +ℤ of_account amounts.now n }
+    ensures sum { total (B.balances book.new) ≡ total (B.balances book.old) +ℤ total amounts.now }
 {
     for i in 0..ACCOUNTS {
         let amount = amounts[i as usize];
@@ -73,14 +73,14 @@ fn make_all<const N: u64, B: Book<N>>(book: &mut B, amounts: &NetAmounts) -> Res
 
 /// Posts each amount that is not 0 to its account, or refuses and posts none.
 pub fn post_all<const N: u64, B: Book<N>>(book: &mut B, amounts: &NetAmounts) -> Result<(), Fault>
-    ensures answer { result ≡ all_answer (balances book.old) (lines book.old) N amounts.now }
-    ensures after { balances book.new ≡ (if is_ok result then added (balances book.old) amounts.now else balances book.old) }
-    ensures spent { lines book.new ≡ (if is_ok result then lines book.old - N * postings amounts.now else lines book.old) }
-    ensures place { kept book.old book.new }
+    ensures answer { result ≡ all_answer (B.balances book.old) (B.lines book.old) N amounts.now }
+    ensures after { B.balances book.new ≡ (if is_ok result then added (B.balances book.old) amounts.now else B.balances book.old) }
+    ensures spent { B.lines book.new ≡ (if is_ok result then B.lines book.old - N * postings amounts.now else B.lines book.old) }
+    ensures place { B.kept book.old book.new }
     ensures whole { is_ok result ≡ false → book.new ≡ book.old }
-    ensures reason { Reason (balances book.old) (lines book.old) N amounts.now result }
-    ensures each { is_ok result ≡ true → (n : ℕ) → of_account (balances book.new) n ≡ of_account (balances book.old) n +ℤ of_account amounts.now n }
-    ensures sum { is_ok result ≡ true → total (balances book.new) ≡ total (balances book.old) +ℤ total amounts.now }
+    ensures reason { Reason (B.balances book.old) (B.lines book.old) N amounts.now result }
+    ensures each { is_ok result ≡ true → (n : ℕ) → of_account (B.balances book.new) n ≡ of_account (B.balances book.old) n +ℤ of_account amounts.now n }
+    ensures sum { is_ok result ≡ true → total (B.balances book.new) ≡ total (B.balances book.old) +ℤ total amounts.now }
 {
     test_all(book, amounts)?;
     make_all(book, amounts)

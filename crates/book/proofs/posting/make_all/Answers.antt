@@ -6,13 +6,13 @@ use Rattle.book.specs.Postings.{added, postings, post_answer, posted_to}
 use Rattle.book.proofs.Added.{added_none, of_account_added, total_added}
 use Rattle.book.proofs.Turns.{Made, nonzero, is_zero, passed, posted, accepted}
 use Rattle.book.proofs.posting.make_all.Goals as goal
-use Rattle.book.proofs.posting.make_all.Goals.{then-amount-ne0+in-ok-post, else-amount-ne0}
+use Rattle.book.proofs.posting.make_all.Goals.{then-amount-ne0+in_ok-post, else-amount-ne0}
 
 pub loop-i-init : goal.loop-i-init
 loop-i-init g c = (record { added_so_far = sym (added_none _); taken_so_far = omega arith }, g.B.Book.laws.stays _)
 
-pub returns-in-err-post : goal.returns-in-err-post
-returns-in-err-post g c =
+pub returns-in_err-post : goal.returns-in_err-post
+returns-in_err-post g c =
     let m = g.B.Book in
     let i = c.loop-i.i in
     let ms = c.args.amounts.now in
@@ -20,8 +20,8 @@ returns-in-err-post g c =
     let b₀ = c.args.book.now in
     let b = c.loop-i.book in
     let fits : SFits w64 a = search rules in
-    let p = c.in-err-post.ensures in
-    let told : Err c.in-err-post.field-0.0 ≡ post_answer (m.balances b) (m.lines b) g.row.N (i + 1) a = simp to_z-of_z at p.answer in
+    let p = c.in_err-post.ensures in
+    let told : Err c.in_err-post.field-0.0 ≡ post_answer (m.balances b) (m.lines b) g.row.N (i + 1) a = simp to_z-of_z at p.answer in
     let ok = accepted (m.balances b₀) ms (m.lines b₀) g.row.N c.told-amounts i c.loop-i-test.true
     (m.laws.accounts b₀) c.requires.inside c.requires.paid
     (m.balances b) (m.lines b) c.loop-i.invariant.0 (nonzero a c.if-amount-ne0.true) in
@@ -40,8 +40,8 @@ loop-i-preserved g c =
     let inv = c.loop-i.invariant in
     let fits : SFits w64 a = search rules in
     elim c.if-amount-ne0.branch [
-      | then-amount-ne0+in-ok-post w ↦
-          let p = w.in-ok-post.ensures in
+      | then-amount-ne0+in_ok-post w ↦
+          let p = w.in_ok-post.ensures in
           let after : m.balances b' ≡ posted_to (m.balances b) (i + 1) a = ap m.balances w.book-is ∙ simp to_z-of_z at p.after in
           let spent : m.lines b' ≡ m.lines b - g.row.N = cc (w.book-is, p.spent) in
           let next = posted (m.balances b₀) ms (m.lines b₀) g.row.N c.told-amounts i c.loop-i-test.true

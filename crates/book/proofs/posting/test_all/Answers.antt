@@ -11,8 +11,8 @@ returns-in-Some g c =
     let e : Err (OutOfBounds c.in-Some.account) ≡ all_answer (m.balances b) (m.lines b) g.row.N c.args.amounts.now = search rules in
     record { answer = e; reason = reason _ _ _ _ (m.laws.accounts b) c.told-amounts (m.laws.bounded b) _ e }
 
-pub returns-then-lines-left-COST : goal.returns-then-lines-left-COST
-returns-then-lines-left-COST g c =
+pub returns-then-lines_left-COST : goal.returns-then-lines_left-COST
+returns-then-lines_left-COST g c =
     let m = g.B.Book in
     let b = c.args.book.now in
     let e : Err NoLines ≡ all_answer (m.balances b) (m.lines b) g.row.N c.args.amounts.now = search rules in

@@ -7,10 +7,10 @@ use Rattle.price.specs.Tally.{SumsOf}
 use Rattle.price.proofs.Turns.{DealOf, no_trade, unfit_here, unfit_later, sums_more, few_more}
 use Rattle.price.proofs.tally.tally.Goals as goal
 
-pub returns-in-default : goal.returns-in-default
-returns-in-default c =
-    let here = unfit_here c.args.last c.args.trades.now c.loop-i.i c.loop-i-test.true c.in-default.ensures in
-    ap (option_map PriceInput) (sym c.loop-i.invariant.0 ∙ here) ∙ ap Some (sym c.fault-at.ensures)
+pub returns-in_default : goal.returns-in_default
+returns-in_default c =
+    let here = unfit_here c.args.last c.args.trades.now c.loop-i.i c.loop-i-test.true c.in_default.ensures in
+    ap (option_map PriceInput) (sym c.loop-i.invariant.0 ∙ here) ∙ ap Some (sym c.fault_at.ensures)
 
 pub loop-i-preserved : goal.loop-i-preserved
 loop-i-preserved c =

@@ -9,9 +9,9 @@ pub returns : goal.returns
 returns c =
     let call = c.args.call in
     let u = c.uses-uses.result in
-    let n = c.numbers-in-numbers.result in
+    let n = c.numbers_in-numbers.result in
     let fit : fitting (numbers_in call) ≡ true = search rules in
-    let kind = c.kind-in-kind.ensures in
+    let kind = c.kind_in-kind.ensures in
     let end : List ℕ = 10 ∷ [] in
     let amount : List ℕ = entry_of u.amount 18 n.amount ++ end in
     let price : List ℕ = entry_of u.price 11 n.price ++ amount in
@@ -27,5 +27,5 @@ returns c =
     ∙ row_back (take 7 c.put-2.new.row) (entry_of u.second 5 n.second) series c.put-3.ensures.shown
     ∙ row_back (take 2 c.put.new.row) (entry_of u.first 5 n.first) second c.put-2.ensures.shown
     ∙ ap (λ l. l ++ rest_of u n) (c.put.ensures.shown ∙ used_entry 2 c.code.result) in
-    ap Some (row ∙ (λ i. column_of 2 ((c.code.ensures ∙ ap code_of kind) i) ++ rest_of ((c.uses-uses.ensures ∙ ap uses_of kind) i) (c.numbers-in-numbers.ensures i)))
+    ap Some (row ∙ (λ i. column_of 2 ((c.code.ensures ∙ ap code_of kind) i) ++ rest_of ((c.uses-uses.ensures ∙ ap uses_of kind) i) (c.numbers_in-numbers.ensures i)))
     ∙ sym (ap (λ t. cond t (Some (line_of call)) None) fit)

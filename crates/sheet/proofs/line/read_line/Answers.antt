@@ -7,11 +7,11 @@ use Rattle.sheet.proofs.line.read_line.Goals as goal
 pub returns-in-len2-up : goal.returns-in-len2-up
 returns-in-len2-up c =
     let xs = c.args.line.now in
-    let is = c.read-coded.ensures ∙ ap (coded_said (get_or xs 0 0) (get_or xs 1 0)) (take_rest xs 2) ∙ line_coded xs (omega (arith, ltb-true, ltb-false)) in
-    record { value = is; writing = reads_line xs c.read-coded.result is }
+    let is = c.read_coded.ensures ∙ ap (coded_said (get_or xs 0 0) (get_or xs 1 0)) (take_rest xs 2) ∙ line_coded xs (omega (arith, ltb-true, ltb-false)) in
+    record { value = is; writing = reads_line xs c.read_coded.result is }
 
-pub returns-in-default : goal.returns-in-default
-returns-in-default c =
+pub returns-in_default : goal.returns-in_default
+returns-in_default c =
     let xs = c.args.line.now in
     let is = line_short xs (omega (arith, ltb-true, ltb-false)) in
     record { value = is; writing = reads_line xs _ is }

@@ -18,11 +18,11 @@ returns-then-b-lt48 c =
     ] in
     sym (word_is word c.if-digits-gt18.false ∙ sym c.loop-b.invariant.1 ∙ no_digit c.loop-b.so_far i word c.loop-b-test.true other)
 
-pub overflow-mul-so-far : goal.overflow-mul-so-far
-overflow-mul-so-far c = let h = below_18 c.loop-b.so_far c.loop-b.b-index c.loop-b.invariant.0 (omega arith) in omega arith
+pub overflow_mul-so_far : goal.overflow_mul-so_far
+overflow_mul-so_far c = let h = below_18 c.loop-b.so_far c.loop-b.b-index c.loop-b.invariant.0 (omega arith) in omega arith
 
-pub overflow-add-so-far : goal.overflow-add-so-far
-overflow-add-so-far c = let h = below_18 c.loop-b.so_far c.loop-b.b-index c.loop-b.invariant.0 (omega arith) in omega arith
+pub overflow_add-so_far : goal.overflow_add-so_far
+overflow_add-so_far c = let h = below_18 c.loop-b.so_far c.loop-b.b-index c.loop-b.invariant.0 (omega arith) in omega arith
 
 pub loop-b-preserved : goal.loop-b-preserved
 loop-b-preserved c =

@@ -7,7 +7,7 @@ loop-at-init c = filled_none c.args.number c.args.column.now
 
 pub loop-at-preserved : goal.loop-at-preserved
 loop-at-preserved c =
-    filled_more c.args.number _ c.loop-at.at c.loop-at.column c.loop-at.left c.glyph-at.result (omega arith) (omega arith) (omega arith) c.loop-at.invariant c.glyph-at.ensures
+    filled_more c.args.number _ c.loop-at.at c.loop-at.column c.loop-at.left c.glyph_at.result (omega arith) (omega arith) (omega arith) c.loop-at.invariant c.glyph_at.ensures
 
 pub returns-then-left-eq0 : goal.returns-then-left-eq0
 returns-then-left-eq0 c =

@@ -9,8 +9,8 @@ returns-then-not-used c =
     let k = length c.args.field.now in
     let out = c.if-not-used.true in
     record {
-      shown = c.fill.ensures.after (λ y e. e) ∙ ap (λ m. replicate m 32) c.write-number-whole.auto.column ∙ sym (ap (λ t. cond t (column_of k c.args.number) (replicate k 32)) out);
-      whole = c.write-number-whole.ensures.whole;
+      shown = c.fill.ensures.after (λ y e. e) ∙ ap (λ m. replicate m 32) c.write_number-whole.auto.column ∙ sym (ap (λ t. cond t (column_of k c.args.number) (replicate k 32)) out);
+      whole = c.write_number-whole.ensures.whole;
     }
 
 pub returns-else-not-used : goal.returns-else-not-used
@@ -19,6 +19,6 @@ returns-else-not-used c =
     let k = length c.args.field.now in
     let out = c.if-not-used.false in
     record {
-      shown = c.write-number-whole.ensures.shown ∙ sym (ap (λ t. cond t (column_of k c.args.number) (replicate k 32)) out);
-      whole = c.write-number-whole.ensures.whole;
+      shown = c.write_number-whole.ensures.shown ∙ sym (ap (λ t. cond t (column_of k c.args.number) (replicate k 32)) out);
+      whole = c.write_number-whole.ensures.whole;
     }
