@@ -14,7 +14,7 @@ import sys
 
 # bound in a signature or a pattern, and declared nowhere
 LOCAL = """all-fees all-gains fault-number fault-place first-is fitting-numbers from-buyer from-seller lines-each next-is
-no-in no-out not-buyer not-false not-seller same-fees same-gains to-ask to-bid to-committee to-count to-house""".split()
+no-in no-out not-buyer not-seller same-fees same-gains to-ask to-bid to-committee to-count to-house""".split()
 
 # two operators, joined as the library joins them
 KEPT = {"*ℤ-+ℤ", "+ℤ-*ℤ", "neg-*ℤ"}

@@ -5,7 +5,7 @@ use lib.ListN.{length-map}
 use Rattle.std.specs.Option.{option_to_list}
 use Rattle.std.proofs.lemmas.List.FromFn.{get_or-map-range_with_len}
 use Rattle.std.proofs.lemmas.List.{get_or-map}
-use Rattle.std.proofs.lemmas.Bool.{both_ways, eqb-true, eqb-false, not_false, cases_Bool, cond_both}
+use Rattle.std.proofs.lemmas.Bool.{both_ways, eqb-true, eqb-false, not-false, cases_Bool, cond_both}
 use Rattle.terms.specs.declared.call.Call.{Call}
 use Rattle.terms.specs.declared.call.Call.TheVariants as call
 use Rattle.steps.specs.declared.Stage.{Stage}
@@ -27,7 +27,7 @@ module _ (s : State) (b o i : ℕ) where
 pub trade_fits : (s : State) (b o i n q : ℕ) → refusal s (call.Trade b o i n q) ≡ None → Fits s (trade_deal b o i n q)
 trade_fits s b o i n q accepted =
     let e = passed s (call.Trade b o i n q) accepted in
-    fits_of s b o i n q (not_false _ (not_refused _ _ e.0)) (not_false _ (not_refused _ _ e.1.0)) (not_refused _ _ e.1.1.1.1.0) (not_false _ (not_refused _ _ e.1.1.0))
+    fits_of s b o i n q (not-false _ (not_refused _ _ e.0)) (not-false _ (not_refused _ _ e.1.0)) (not_refused _ _ e.1.1.1.1.0) (not-false _ (not_refused _ _ e.1.1.0))
 
 eqb_turned : (a b : ℕ) → eqb a b ≡ false → eqb b a ≡ false
 eqb_turned a b h = elim (cases_Bool (eqb b a)) [ inl e ↦ absurd (eqb-false a b h (sym (eqb-true b a e))) | inr e ↦ e ]
@@ -35,9 +35,9 @@ eqb_turned a b h = elim (cases_Bool (eqb b a)) [ inl e ↦ absurd (eqb-false a b
 pub force_fits : (s : State) (c o i offer q : ℕ) → refusal s (call.Force c o i offer q) ≡ None → Fits s (force_deal s c o i offer q)
 force_fits s c o i offer q accepted =
     let e = passed s (call.Force c o i offer q) accepted in
-    let first = not_false _ (not_refused _ _ e.0) in
-    let second = not_false _ (not_refused _ _ e.1.0) in
-    let series = not_false _ (not_refused _ _ e.1.1.0) in
+    let first = not-false _ (not_refused _ _ e.0) in
+    let second = not-false _ (not_refused _ _ e.1.0) in
+    let series = not-false _ (not_refused _ _ e.1.1.0) in
     let apart = not_refused (eqb c o) _ e.1.1.1.1.0 in
     cond_both (is_long (position s c i)) _ _ (Fits s)
     (λ t. fits_of s o c i (forced s c i offer q) q second first (eqb_turned c o apart) series)
@@ -135,14 +135,14 @@ module _ (s : State) (sound : Sound s) (ds : List Deal) (said : Explained s ds) 
   explained_moved (call.Withdraw n a) fits = said
   explained_moved (call.Trade b o i n q) fits =
       let entries = passed s (call.Trade b o i n q) fits in
-      dealt_said s (trade_deal b o i n q) ds (trade_fits s b o i n q fits) sound.wide sound.full (not_ended (series_at s i).stage (not_false _ (not_refused _ _ entries.1.1.1.1.1.1.1.1.0))) said
+      dealt_said s (trade_deal b o i n q) ds (trade_fits s b o i n q fits) sound.wide sound.full (not_ended (series_at s i).stage (not-false _ (not_refused _ _ entries.1.1.1.1.1.1.1.1.0))) said
   explained_moved call.Late fits = said
   explained_moved call.Shut fits = said
   explained_moved (call.Mark i q) fits =
       same_said s (moved s (call.Mark i q)) ds said stay (λ j. ended_set s.series (i - 1) (j - 1) (settled_at (series_at s i) q) no_series refl)
   explained_moved (call.Final i q) fits =
       λ n j is other.
-      let series = not_false _ (not_refused _ _ (passed s (call.Final i q) fits).0) in
+      let series = not-false _ (not_refused _ _ (passed s (call.Final i q) fits).0) in
       final_held s i series sound.wide sound.full n j is other
       ∙ by (eqb j i) (ended (series_at s j).stage) (position s n j) (net n j ds) (said n j is other)
       ∙ ap (λ b. cond b (pos 0) (net n j ds)) (sym (final_stage s i q sound.all series j other))
@@ -153,7 +153,7 @@ module _ (s : State) (sound : Sound s) (ds : List Deal) (said : Explained s ds) 
   explained_moved (call.Force c o i offer q) fits =
       let entries = passed s (call.Force c o i offer q) fits in
       dealt_said s (force_deal s c o i offer q) ds (force_fits s c o i offer q fits) sound.wide sound.full
-      (ap (λ k. ended (series_at s k).stage) (force_series s c o i offer q) ∙ not_ended (series_at s i).stage (not_false _ (not_refused _ _ entries.1.1.1.1.1.1.1.1.0))) said
+      (ap (λ k. ended (series_at s k).stage) (force_series s c o i offer q) ∙ not_ended (series_at s i).stage (not-false _ (not_refused _ _ entries.1.1.1.1.1.1.1.1.0))) said
   explained_moved (call.Cover c) fits = said
   explained_moved call.Notices fits =
       same_said s (moved s call.Notices) ds said

@@ -5,7 +5,7 @@ use Rattle.std.specs.Option.{option_to_list}
 use Rattle.std.specs.List.{AllByRecursion as All}
 use Rattle.std.proofs.ByRecursion.{All-weaker}
 use Rattle.std.proofs.lemmas.List.{get_or-set_other, get_or-set_same}
-use Rattle.std.proofs.lemmas.Bool.{both_ways, eqb-true, eqb-false, ne_eqb, not_false, and_parts, leb-true}
+use Rattle.std.proofs.lemmas.Bool.{both_ways, eqb-true, eqb-false, ne_eqb, not-false, and_parts, leb-true}
 use Rattle.terms.specs.declared.call.Answer.{Answer}
 use Rattle.terms.specs.declared.call.Call.{Call}
 use Rattle.terms.specs.declared.call.Call.TheVariants as call
@@ -138,7 +138,7 @@ module _ (s : State) (sound : Sound s) (ds : List Deal) (said : Explained s ds) 
   change (call.List size limit i price fee) fits =
       let entries = passed s (call.List size limit i price fee) fits in
       let unlisted = not_refused (ever_listed (series_at s i).stage) _ entries.1.1.1.0 in
-      let series = not_false _ (not_refused _ _ entries.0) in
+      let series = not-false _ (not_refused _ _ entries.0) in
       kept_terms (call.List size limit i price fee)
       (λ d other ever.
       let apart : d.series - 1 ≡ i - 1 → ⊥ = λ e. both_ways (ever_listed (series_at s d.series).stage) (ap (λ l. ever_listed (get_or s.series l no_series).stage) e ∙ unlisted) ever in
@@ -154,16 +154,16 @@ module _ (s : State) (sound : Sound s) (ds : List Deal) (said : Explained s ds) 
   change (call.Mark i q) fits =
       let entries = passed s (call.Mark i q) fits in
       marked s (call.Mark i q) (answer s (call.Mark i q)) i q n (settled_at (series_at s i) q) ds refl refl refl (moved s (call.Mark i q)) refl sound said listed
-      (not_false _ (not_refused _ _ entries.0)) (not_ended (series_at s i).stage (not_false _ (not_refused _ _ entries.1.1.1.0))) is refl refl refl refl
+      (not-false _ (not_refused _ _ entries.0)) (not_ended (series_at s i).stage (not-false _ (not_refused _ _ entries.1.1.1.0))) is refl refl refl refl
   change (call.Final i q) fits =
       let entries = passed s (call.Final i q) fits in
       marked s (call.Final i q) (answer s (call.Final i q)) i q n (ended_at (series_at s i) q) ds refl refl refl (moved s (call.Final i q)) refl sound said listed
-      (not_false _ (not_refused _ _ entries.0)) (not_ended (series_at s i).stage (not_false _ (not_refused _ _ entries.1.1.1.0))) is refl refl refl refl
+      (not-false _ (not_refused _ _ entries.0)) (not_ended (series_at s i).stage (not-false _ (not_refused _ _ entries.1.1.1.0))) is refl refl refl refl
   change (call.Force c o i offer q) fits =
       dealt s (call.Force c o i offer q) (answer s (call.Force c o i offer q)) (force_deal s c o i offer q) n ds (force_fits s c o i offer q fits) is refl refl refl refl (moved s (call.Force c o i offer q)) (λ k. refl)
   change (call.Cover c) fits =
       let entries = passed s (call.Cover c) fits in
-      let there = not_false _ (not_refused _ _ entries.1.1.0) in
+      let there = not-false _ (not_refused _ _ entries.1.1.0) in
       let apart = broker_apart (customer s c).broker there (brokers (c - 1)) n is in
       kept_terms (call.Cover c) unchanged
       (ap (λ b. alone c (pos (covered s c)) n -ℤ cond b (pos (covered s c)) (pos 0)) apart ∙ whole (alone c (pos (covered s c)) n))

@@ -2,7 +2,7 @@
 use Rattle.std.proofs.Common.{◌≡◌, ℕ, zero, suc, ◌+◌, ◌-◌, Bool, true, false, cond, ◌&&◌, ◌||◌, eqb, leb, List, [], ◌∷◌, ◌++◌, get_or, ℤ, pos, ◌+ℤ◌, ◌-ℤ◌, nat_abs, Some, None, Ok, Err, sym, refl, ap, ◌∙◌, subst, inl, inr, arith}
 use Rattle.std.specs.Option.{option_to_list}
 use Rattle.std.proofs.lemmas.Int.{ints}
-use Rattle.std.proofs.lemmas.Bool.{both_ways, not_false, and_parts, leb-true, lt-leb, le-leb, lt-ltb, eqb-true}
+use Rattle.std.proofs.lemmas.Bool.{both_ways, not-false, and_parts, leb-true, lt-leb, le-leb, lt-ltb, eqb-true}
 use Rattle.terms.specs.declared.call.Answer.{Answer}
 use Rattle.terms.specs.declared.call.Call.{Call}
 use Rattle.terms.specs.declared.call.Call.TheVariants as call
@@ -45,7 +45,7 @@ empty_total (b ∷ bs) e = λ i. e zero i +ℤ empty_total bs (λ j. e (suc j)) 
 module _ (s : State) (fits : refusal s call.Begin ≡ None) where
   pub was_shut : began s ≡ false
   was_shut =
-      let phase = and_parts (leb 0 (phase_number s.phase)) (leb (phase_number s.phase) 0) (not_false _ (not_refused _ _ (passed s call.Begin fits).0)) in
+      let phase = and_parts (leb 0 (phase_number s.phase)) (leb (phase_number s.phase) 0) (not-false _ (not_refused _ _ (passed s call.Begin fits).0)) in
       lt-leb 1 (phase_number s.phase) (omega (arith, leb-true (phase_number s.phase) 0 phase.1))
 
   was_empty : (j : ℕ) → get_or s.balances j (pos 0) ≡ pos 0

@@ -3,7 +3,7 @@ use Rattle.std.proofs.Common.{◌≡◌, ℕ, zero, suc, ◌+◌, ◌-◌, ◌�
 use Rattle.std.specs.List.{range_with_len}
 use Rattle.std.specs.Option.{option_to_list}
 use Rattle.std.proofs.ByRecursion.{All-weaker, All-append}
-use Rattle.std.proofs.lemmas.Bool.{not_false, and_parts, leb-true, le-leb}
+use Rattle.std.proofs.lemmas.Bool.{not-false, and_parts, leb-true, le-leb}
 use Rattle.terms.specs.declared.call.Call.{Call}
 use Rattle.terms.specs.declared.call.Call.TheVariants as call
 use Rattle.steps.specs.declared.Stage.{Stage}
@@ -57,13 +57,13 @@ new_dealt s (call.List size limit i price fee) fits = tt
 new_dealt s (call.Deposit n a) fits = tt
 new_dealt s (call.Withdraw n a) fits = tt
 new_dealt s (call.Trade b o i n q) fits =
-    (((trade_fits s b o i n q fits).series, open_listed (series_at s i).stage (not_false _ (not_refused _ _ (passed s (call.Trade b o i n q) fits).1.1.1.1.1.1.1.1.0))), tt)
+    (((trade_fits s b o i n q fits).series, open_listed (series_at s i).stage (not-false _ (not_refused _ _ (passed s (call.Trade b o i n q) fits).1.1.1.1.1.1.1.1.0))), tt)
 new_dealt s call.Late fits = tt
 new_dealt s call.Shut fits = tt
 new_dealt s (call.Mark i q) fits = tt
 new_dealt s (call.Final i q) fits = tt
 new_dealt s (call.Force c o i offer q) fits =
-    (((force_fits s c o i offer q fits).series, ap (λ k. ever_listed (series_at s k).stage) (force_series s c o i offer q) ∙ open_listed (series_at s i).stage (not_false _ (not_refused _ _ (passed s (call.Force c o i offer q) fits).1.1.1.1.1.1.1.1.0))), tt)
+    (((force_fits s c o i offer q fits).series, ap (λ k. ever_listed (series_at s k).stage) (force_series s c o i offer q) ∙ open_listed (series_at s i).stage (not-false _ (not_refused _ _ (passed s (call.Force c o i offer q) fits).1.1.1.1.1.1.1.1.0))), tt)
 new_dealt s (call.Cover c) fits = tt
 new_dealt s call.Notices fits = tt
 
@@ -103,7 +103,7 @@ brokered_new (suc m) (suc k) = brokered_new m k
 
 brokered_moved : (s : State) (c : Call) → refusal s c ≡ None → AllBrokered s.customers → AllBrokered (customers_after s c)
 brokered_moved s call.Begin fits all = all
-brokered_moved s (call.Enrol c b) fits all = brokered_set s.customers all (c - 1) (under_broker (customer s c) b) (not_false _ (not_refused _ _ (passed s (call.Enrol c b) fits).1.0))
+brokered_moved s (call.Enrol c b) fits all = brokered_set s.customers all (c - 1) (under_broker (customer s c) b) (not-false _ (not_refused _ _ (passed s (call.Enrol c b) fits).1.0))
 brokered_moved s (call.List size limit i price fee) fits all = all
 brokered_moved s (call.Deposit n a) fits all = all
 brokered_moved s (call.Withdraw n a) fits all = all
@@ -132,15 +132,15 @@ from_phase s first last some h =
 -- but for begin, only an open room takes calls
 pub took : (s : State) (c : Call) → refusal s c ≡ None → (c ≡ call.Begin) ⊎ (began s ≡ true)
 took s call.Begin fits = inl refl
-took s (call.Enrol c b) fits = inr (from_phase s 1 3 (omega arith) (not_false _ (not_refused _ _ (passed s (call.Enrol c b) fits).1.1.0)))
-took s (call.List size limit i price fee) fits = inr (from_phase s 1 2 (omega arith) (not_false _ (not_refused _ _ (passed s (call.List size limit i price fee) fits).1.1.0)))
-took s (call.Deposit n a) fits = inr (from_phase s 1 3 (omega arith) (not_false _ (not_refused _ _ (passed s (call.Deposit n a) fits).1.1.0)))
-took s (call.Withdraw n a) fits = inr (from_phase s 1 2 (omega arith) (not_false _ (not_refused _ _ (passed s (call.Withdraw n a) fits).1.1.0)))
-took s (call.Trade b o i n q) fits = inr (from_phase s 1 2 (omega arith) (not_false _ (not_refused _ _ (passed s (call.Trade b o i n q) fits).1.1.1.1.1.0)))
-took s call.Late fits = inr (from_phase s 1 1 (omega arith) (not_false _ (not_refused _ _ (passed s call.Late fits).0)))
-took s call.Shut fits = inr (from_phase s 2 2 (omega arith) (not_false _ (not_refused _ _ (passed s call.Shut fits).0)))
-took s (call.Mark i q) fits = inr (from_phase s 3 3 (omega arith) (not_false _ (not_refused _ _ (passed s (call.Mark i q) fits).1.1.0)))
-took s (call.Final i q) fits = inr (from_phase s 3 3 (omega arith) (not_false _ (not_refused _ _ (passed s (call.Final i q) fits).1.1.0)))
-took s (call.Force c o i offer q) fits = inr (from_phase s 2 3 (omega arith) (not_false _ (not_refused _ _ (passed s (call.Force c o i offer q) fits).1.1.1.1.1.0)))
-took s (call.Cover c) fits = inr (from_phase s 3 3 (omega arith) (not_false _ (not_refused _ _ (passed s (call.Cover c) fits).1.0)))
-took s call.Notices fits = inr (from_phase s 3 3 (omega arith) (not_false _ (not_refused _ _ (passed s call.Notices fits).0)))
+took s (call.Enrol c b) fits = inr (from_phase s 1 3 (omega arith) (not-false _ (not_refused _ _ (passed s (call.Enrol c b) fits).1.1.0)))
+took s (call.List size limit i price fee) fits = inr (from_phase s 1 2 (omega arith) (not-false _ (not_refused _ _ (passed s (call.List size limit i price fee) fits).1.1.0)))
+took s (call.Deposit n a) fits = inr (from_phase s 1 3 (omega arith) (not-false _ (not_refused _ _ (passed s (call.Deposit n a) fits).1.1.0)))
+took s (call.Withdraw n a) fits = inr (from_phase s 1 2 (omega arith) (not-false _ (not_refused _ _ (passed s (call.Withdraw n a) fits).1.1.0)))
+took s (call.Trade b o i n q) fits = inr (from_phase s 1 2 (omega arith) (not-false _ (not_refused _ _ (passed s (call.Trade b o i n q) fits).1.1.1.1.1.0)))
+took s call.Late fits = inr (from_phase s 1 1 (omega arith) (not-false _ (not_refused _ _ (passed s call.Late fits).0)))
+took s call.Shut fits = inr (from_phase s 2 2 (omega arith) (not-false _ (not_refused _ _ (passed s call.Shut fits).0)))
+took s (call.Mark i q) fits = inr (from_phase s 3 3 (omega arith) (not-false _ (not_refused _ _ (passed s (call.Mark i q) fits).1.1.0)))
+took s (call.Final i q) fits = inr (from_phase s 3 3 (omega arith) (not-false _ (not_refused _ _ (passed s (call.Final i q) fits).1.1.0)))
+took s (call.Force c o i offer q) fits = inr (from_phase s 2 3 (omega arith) (not-false _ (not_refused _ _ (passed s (call.Force c o i offer q) fits).1.1.1.1.1.0)))
+took s (call.Cover c) fits = inr (from_phase s 3 3 (omega arith) (not-false _ (not_refused _ _ (passed s (call.Cover c) fits).1.0)))
+took s call.Notices fits = inr (from_phase s 3 3 (omega arith) (not-false _ (not_refused _ _ (passed s call.Notices fits).0)))

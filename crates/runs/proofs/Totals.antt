@@ -2,7 +2,7 @@
 use Rattle.std.proofs.Common.{◌≡◌, ℕ, zero, suc, ◌+◌, ◌-◌, ◌<◌, ◌≤◌, Bool, true, false, cond, ◌&&◌, eqb, ltb, leb, List, [], ◌∷◌, map, get_or, ℤ, pos, ◌+ℤ◌, ◌-ℤ◌, ◌*ℤ◌, neg_ℤ, is_some, Some, None, Option, unwrap_or, sym, refl, ap, ◌∙◌, inl, inr, add-zero, suc-add, zero-add, arith}
 use lib.IntN.{zero-*ℤ}
 use Rattle.std.specs.List.{range_with_len}
-use Rattle.std.proofs.lemmas.Bool.{both_ways, eqb-true, lt-leb, le-leb, not_false, and_parts, or_cases, leb-true, ltb-true, and_right}
+use Rattle.std.proofs.lemmas.Bool.{both_ways, eqb-true, lt-leb, le-leb, not-false, and_parts, or_cases, leb-true, ltb-true, and_right}
 use Rattle.terms.specs.declared.call.Call.{Call}
 use Rattle.terms.specs.declared.call.Call.TheVariants as call
 use Rattle.book.specs.Balances.{total}
@@ -126,7 +126,7 @@ module _ (s : State) (level : (i : ℕ) → is_series i ≡ true → over (λ n.
   posted_total (call.Enrol c b) fits = nothing
   posted_total (call.List size limit i price fee) fits = nothing
   posted_total (call.Deposit k x) fits =
-      let whose = or_cases (is_customer k) (is_broker k) (not_false _ (not_refused _ _ (passed s (call.Deposit k x) fits).0)) in
+      let whose = or_cases (is_customer k) (is_broker k) (not-false _ (not_refused _ _ (passed s (call.Deposit k x) fits).0)) in
       let low : 1 ≤ k = elim whose [ inl c ↦ low_of k c | inr b ↦ omega (arith, leb-true 57 k (and_parts (leb 57 k) (leb k 63) b).0) ] in
       let high : k ≤ 64 = elim whose [ inl c ↦ omega (arith, high_of k c) | inr b ↦ omega (arith, leb-true k 63 (and_parts (leb 57 k) (leb k 63) b).1) ] in
       one_account k (pos x) low high ∙ whole (pos x)
@@ -134,7 +134,7 @@ module _ (s : State) (level : (i : ℕ) → is_series i ≡ true → over (λ n.
       whole : (z : ℤ) → z ≡ z -ℤ pos 0
       whole z = omega (arith, linear)
   posted_total (call.Withdraw k x) fits =
-      let account = and_parts (ltb 0 k) (leb k 64) (not_false _ (not_refused _ _ (passed s (call.Withdraw k x) fits).0)) in
+      let account = and_parts (ltb 0 k) (leb k 64) (not-false _ (not_refused _ _ (passed s (call.Withdraw k x) fits).0)) in
       one_account k (neg_ℤ (pos x)) (ltb-true 0 k account.0) (leb-true k 64 account.1) ∙ whole (pos x)
     where
       whole : (z : ℤ) → neg_ℤ z ≡ pos 0 -ℤ z
@@ -142,12 +142,12 @@ module _ (s : State) (level : (i : ℕ) → is_series i ≡ true → over (λ n.
   posted_total (call.Trade b o i n q) fits = deal_total s (trade_deal b o i n q) (trade_fits s b o i n q fits)
   posted_total call.Late fits = nothing
   posted_total call.Shut fits = nothing
-  posted_total (call.Mark i q) fits = mark_total s i q (level i (not_false _ (not_refused _ _ (passed s (call.Mark i q) fits).0)))
-  posted_total (call.Final i q) fits = mark_total s i q (level i (not_false _ (not_refused _ _ (passed s (call.Final i q) fits).0)))
+  posted_total (call.Mark i q) fits = mark_total s i q (level i (not-false _ (not_refused _ _ (passed s (call.Mark i q) fits).0)))
+  posted_total (call.Final i q) fits = mark_total s i q (level i (not-false _ (not_refused _ _ (passed s (call.Final i q) fits).0)))
   posted_total (call.Force c o i offer q) fits = deal_total s (force_deal s c o i offer q) (force_fits s c o i offer q fits)
   posted_total (call.Cover c) fits =
       let entries = passed s (call.Cover c) fits in
-      cover_total c (broker_of s c) (covered s c) (not_false _ (not_refused _ _ entries.0)) (is_one (customer s c).broker (not_false _ (not_refused _ _ entries.1.1.0)) (brokers (c - 1)))
+      cover_total c (broker_of s c) (covered s c) (not-false _ (not_refused _ _ entries.0)) (is_one (customer s c).broker (not-false _ (not_refused _ _ entries.1.1.0)) (brokers (c - 1)))
     where
       is_one : (o : Option ℕ) → is_some o ≡ true → Brokered o → is_broker (unwrap_or o 0) ≡ true
       is_one None some ok = absurd (both_ways false refl some)
