@@ -2,6 +2,7 @@
 #![tactic(auto)]
 
 use crate::report::{answer_line, refusal_line};
+use anyhow::anyhow;
 use price::settlement_price;
 use std::io::Read;
 use tape::read_day;
@@ -24,7 +25,7 @@ fn run(rt: &HostRuntime) -> anyhow::Result<()> {
     let mut text = Vec::new(heap);
     let _ = rt.stdin().read_to_end(&mut text)?;
     match read_day(heap, text.as_slice()) {
-        Err(refusal) => Err(refusal_line(heap, refusal)?.into()),
+        Err(refusal) => Err(anyhow!(refusal_line(heap, refusal)?)),
         Ok(day) => {
             let trades = day.trades.len();
             println!(rt; "trades: {trades}")?;

@@ -6,7 +6,7 @@ use Rattle.tape.specs.Tapes.{Gives}
 use Rattle.tape.proofs.Cuts.{shorter}
 use Rattle.tape.proofs.Days.{line_refused, line_taken, no_line}
 use Rattle.tape.proofs.read_day.Goals as goal
-use Rattle.tape.proofs.read_day.Goals.{in-Some+in-ok-push, in-default}
+use Rattle.tape.proofs.read_day.Goals.{in-Some+in_ok-push-in-Ok, in_default}
 
 pub returns-in-Err : goal.returns-in-Err
 returns-in-Err c =
@@ -27,8 +27,8 @@ loop-rest-preserved c =
     let ts = vec_items c.loop-rest.trades in
     let more : vec_items c.match-trade.trades ≡ ts ++ option_to_list c.in-Ok.trade =
     elim c.match-trade.branch [
-      | in-Some+in-ok-push w ↦ ap vec_items w.trades-is ∙ w.in-ok-push.ensures.items ∙ ap (λ o. ts ++ option_to_list o) (sym w.in-Some.is)
-      | in-default w ↦ ap vec_items w.trades-is ∙ sym (append-nil ts) ∙ ap (λ o. ts ++ option_to_list o) (sym w.in-default.is)
+      | in-Some+in_ok-push-in-Ok w ↦ ap vec_items w.trades-is ∙ w.in_ok-push-in-Ok.ensures.items ∙ ap (λ o. ts ++ option_to_list o) (sym w.in-Some.is)
+      | in_default w ↦ ap vec_items w.trades-is ∙ sym (append-nil ts) ∙ ap (λ o. ts ++ option_to_list o) (sym w.in_default.is)
     ] in
     let less : length c.cut.result.1.now < length text = subst (λ l. length l < length text) (sym c.cut.ensures.after) (shorter 10 text some) in (
       line_taken c.loop-rest.line text c.loop-rest.header ts some c.cut.result.0.now c.cut.result.1.now c.cut.ensures.before c.cut.ensures.after c.in-Ok.with c.in-Ok.trade (vec_items c.match-trade.trades) c.in-Ok.ensures more ∙ c.loop-rest.invariant.0,

@@ -4,16 +4,16 @@ use Rattle.tape.specs.Lines.{keywords}
 use Rattle.tape.proofs.Named.{named_here, named_later, not_named}
 use Rattle.tape.proofs.item.Keyword.of.Goals as goal
 
-pub returns-then-is-word : goal.returns-then-is-word
-returns-then-is-word c =
+pub returns-then-is_word : goal.returns-then-is_word
+returns-then-is_word c =
     let word = c.args.word.now in
-    let same = sym (c.if-is-word.ensures ∙ ap (bytes_eq word) c.name.ensures) in
+    let same = sym (c.if-is_word.ensures ∙ ap (bytes_eq word) c.name.ensures) in
     sym (sym c.loop-keyword.invariant ∙ named_here word keywords c.loop-keyword.keyword-index c.loop-keyword-test.true same)
 
 pub loop-keyword-preserved : goal.loop-keyword-preserved
 loop-keyword-preserved c =
     let word = c.args.word.now in
-    let other = sym (c.if-is-word.ensures ∙ ap (bytes_eq word) c.name.ensures) in
+    let other = sym (c.if-is_word.ensures ∙ ap (bytes_eq word) c.name.ensures) in
     sym (named_later word keywords c.loop-keyword.keyword-index c.loop-keyword-test.true other) ∙ c.loop-keyword.invariant
 
 pub returns : goal.returns
