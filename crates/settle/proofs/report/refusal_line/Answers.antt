@@ -4,4 +4,4 @@ use Rattle.settle.proofs.report.refusal_line.Goals as goal
 
 pub returns-in-Memory : goal.returns-in-Memory
 returns-in-Memory c =
-    subst (λ t. IfOk c.from-str.result (λ s. string_bytes s ≡ refusal_words t)) (sym c.in-Memory.is) c.from-str.ensures.ok
+    subst (λ t. IfOk c.from_str.result (λ s. string_bytes s ≡ refusal_words t)) (sym c.in-Memory.is) c.from_str.ensures.ok
