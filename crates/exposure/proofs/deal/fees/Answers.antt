@@ -8,8 +8,8 @@ small c =
     let count : c.get-2.result ≤ 1000 = omega (arith, c.args.count.high) in
     mul-le-mul fee count
 
-pub overflow-cast-result : goal.overflow-cast-result
-overflow-cast-result c = omega (arith, ints, small c)
+pub overflow_cast-result : goal.overflow_cast-result
+overflow_cast-result c = omega (arith, ints, small c)
 
 pub returns : goal.returns
 returns c =

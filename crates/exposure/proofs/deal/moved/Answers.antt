@@ -8,8 +8,8 @@ contracts c = subst (λ z. nat_abs z ≤ 1000) (sym c.get.ensures) c.args.positi
 size : (c : goal.After-get-2) → c.get-2.result ≤ 1000
 size c = omega (arith, c.args.size.high)
 
-pub overflow-mul-result-2 : goal.overflow-mul-result-2
-overflow-mul-result-2 c = computed_fits c.get.result c.args.by _ (contracts c) (size c) c.requires
+pub overflow_mul-result-2 : goal.overflow_mul-result-2
+overflow_mul-result-2 c = computed_fits c.get.result c.args.by _ (contracts c) (size c) c.requires
 
 pub returns : goal.returns
 returns c =

@@ -9,7 +9,7 @@ sum-all-requires g c =
     let laws = g.R.MarginRule.laws c.args.rule.now in
     record {
       a = asks_fit rule laws (all_series_of c.args.series.now) c.args.positions.now.held (c.loop-n.n - 1) (omega arith) c.loop-n.invariant;
-      b = part_fits rule laws c.unwrap-number.result.value (series_of c.get-in-loop-n.result.now) c.count-count.result c.part-of.ensures;
+      b = part_fits rule laws c.unwrap-number.result.value (series_of c.get-in-loop-n.result.now) c.count-count.result c.part_of.ensures;
     }
 
 pub loop-n-preserved : goal.loop-n-preserved
@@ -19,8 +19,8 @@ loop-n-preserved g c =
     let ps = c.args.positions.now.held in
     let v = c.unwrap-number.result.value in
     let number : v ≡ c.loop-n.n = search rules in
-    asks_more rule ss ps c.loop-n.all c.part-of.result c.sum-all.result c.loop-n.n v c.count-count.result (series_of c.get-in-loop-n.result.now) c.get.result.contracts
-    c.loop-n.auto.n number c.get-in-loop-n.ensures c.get.ensures c.count-count.ensures c.loop-n.invariant c.part-of.ensures c.sum-all.ensures
+    asks_more rule ss ps c.loop-n.all c.part_of.result c.sum-all.result c.loop-n.n v c.count-count.result (series_of c.get-in-loop-n.result.now) c.get.result.contracts
+    c.loop-n.auto.n number c.get-in-loop-n.ensures c.get.ensures c.count-count.ensures c.loop-n.invariant c.part_of.ensures c.sum-all.ensures
 
 pub returns : goal.returns
 returns g c =
