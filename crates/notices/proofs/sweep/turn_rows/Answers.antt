@@ -8,7 +8,7 @@ use Rattle.tables.specs.Views.{customer_of, all_series_of}
 use Rattle.notices.specs.Turns.{due, due_at, turns_to}
 use Rattle.notices.proofs.Swept.{seen, changed, unchanged, ends, count_more}
 use Rattle.notices.proofs.sweep.turn_rows.Goals as goal
-use Rattle.notices.proofs.sweep.turn_rows.Goals.{then-is-due, else-is-due}
+use Rattle.notices.proofs.sweep.turn_rows.Goals.{then-is_due, else-is_due}
 
 fifty_six : customers ≡ 56
 unfolding customers
@@ -33,17 +33,17 @@ loop-at-preserved g c =
     let m : length rows ≡ 56 = c.loop-at.auto.rows ∙ c.requires in
     let h : i < 56 = omega (arith, c.loop-at-test.true) in
     let row = seen customer_of no_customer cs p F n rows m i h v.2 c.index-rows-at.result in
-    let money = to_z-of_z w64 c.balance-balance.result (record { sfits = c.balance-balance.type-inv }) ∙ c.balance-balance.ensures.answer in
-    let is : c.is-due.result ≡ p (i + 1) = c.is-due.ensures ∙ (λ k. due rule ss t (row k) (money k)) in
-    elim c.if-is-due.branch [
-      | then-is-due w ↦
-          let turns : p (i + 1) ≡ true = sym is ∙ w.if-is-due.true in (
+    let money = to_z-of_z w64 c.balance-balance.result (record { sfits = c.balance-balance.type_inv }) ∙ c.balance-balance.ensures.answer in
+    let is : c.is_due.result ≡ p (i + 1) = c.is_due.ensures ∙ (λ k. due rule ss t (row k) (money k)) in
+    elim c.if-is_due.branch [
+      | then-is_due w ↦
+          let turns : p (i + 1) ≡ true = sym is ∙ w.if-is_due.true in (
             omega (arith, w.turned-is, v.0),
             w.turned-is ∙ omega (arith, v.1, count_more p 1 i (i + 1) true (omega arith) turns),
-            ap (map customer_of) w.rows-is ∙ changed customer_of no_customer cs p F n rows m i h v.2 w.index-rows-at-then-is-due.result _ turns (w.turn.ensures ∙ ap (noted (customer_of (get_or rows i w.index-rows-at-then-is-due.result))) w.notice.ensures),
+            ap (map customer_of) w.rows-is ∙ changed customer_of no_customer cs p F n rows m i h v.2 w.index-rows-at-then-is_due.result _ turns (w.turn.ensures ∙ ap (noted (customer_of (get_or rows i w.index-rows-at-then-is_due.result))) w.notice.ensures),
           )
-      | else-is-due w ↦
-          let stays : p (i + 1) ≡ false = sym is ∙ w.if-is-due.false in (
+      | else-is_due w ↦
+          let stays : p (i + 1) ≡ false = sym is ∙ w.if-is_due.false in (
             omega (arith, w.turned-is, v.0),
             w.turned-is ∙ omega (arith, v.1, count_more p 1 i (i + 1) false (omega arith) stays),
             ap (map customer_of) w.rows-is ∙ unchanged customer_of no_customer cs p F n rows m i h v.2 stays,
