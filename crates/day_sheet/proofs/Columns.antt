@@ -1,6 +1,6 @@
 -- That every number of an answer fits its column.
 use Rattle.std.proofs.Common.{◌≡◌, ℕ, ◌+◌, ◌-◌, ◌^◌, ◌<◌, ◌≤◌, min, Bool, true, false, List, [], ◌∷◌, ◌++◌, length, ℤ, nat_abs, Some, None, Ok, Err, count_by, Option, Result, sym, refl, subst, arith, lit<, rules}
-use Rattle.std.specs.List.{range_with_len, AllByRecursion as All}
+use Rattle.std.specs.List.{range_with_len, AllByRecursion}
 use Rattle.std.specs.Option.{ok_or}
 use Rattle.std.proofs.lemmas.List.FromFn.{length-range_with_len}
 use Rattle.std.proofs.ByRecursion.{All-append}
@@ -47,7 +47,7 @@ placed : (b : Bool) (f : Fault) → place_of f < 100000 → Placed (refuse b f)
 placed true f h = h
 placed false f h = tt
 
-first_placed : (xs : List (Option Fault)) → All Placed xs → Placed (first xs)
+first_placed : (xs : List (Option Fault)) → AllByRecursion Placed xs → Placed (first xs)
 first_placed [] h = tt
 first_placed (None ∷ xs) h = first_placed xs h.1
 first_placed (Some f ∷ xs) h = h.0
@@ -80,7 +80,7 @@ in_fields : (c : Call) → fitting_numbers (numbers_in c) ≡ true → Fields c
 in_fields c h = record { first = grind (arith, nat_tests); second = grind (arith, nat_tests); series = grind (arith, nat_tests); count = grind (arith, nat_tests) }
 
 -- every refusal of every call
-room_placed : (s : State) (c : Call) → RangedState s → Fields c → All Placed (room_refusals s c)
+room_placed : (s : State) (c : Call) → RangedState s → Fields c → AllByRecursion Placed (room_refusals s c)
 room_placed s call.Begin r f = let h = r.balances in search (rules, placed, not_empty_placed)
 room_placed s (call.Enrol c b) r f = search (rules, placed)
 room_placed s (call.List size limit i price fee) r f = search (rules, placed)

@@ -1,6 +1,6 @@
 -- All figures at once, as the checker computes them.
 use Rattle.std.proofs.Common.{◌≡◌, List, [], ◌∷◌, map, refl, ap}
-use Rattle.std.specs.List.{AllByRecursion as All}
+use Rattle.std.specs.List.{AllByRecursion}
 use Rattle.steps.specs.State.{customers, house, all_series, no_customer}
 use Rattle.steps.specs.Deals.{enough, forced}
 use Rattle.steps.specs.Steps.{posts}
@@ -18,7 +18,7 @@ abbrev tail : List Reply → List Reply
 tail [] = []
 tail (x ∷ xs) = xs
 
-each : (fs : List Figure) → map (λ f. reply f.asked) fs ≡ map (λ f. f.written) fs → All Stands fs
+each : (fs : List Figure) → map (λ f. reply f.asked) fs ≡ map (λ f. f.written) fs → AllByRecursion Stands fs
 each [] e = tt
 each (f ∷ fs) e = (ap (head f.written) e, each fs (ap tail e))
 

@@ -1,6 +1,6 @@
 -- The worked figures: what is asked, and what was written down as its answer.
 use Rattle.std.specs.Prelude.{◌≡◌, ℕ, List, [], ◌∷◌, ◌++◌, map, replicate, ℤ, pos, Some, None, Ok, Err, Option, Result}
-use Rattle.std.specs.List.{AllByRecursion as All}
+use Rattle.std.specs.List.{AllByRecursion}
 use Rattle.terms.specs.declared.call.Answer.{Answer}
 use Rattle.terms.specs.declared.call.Call.{Call}
 use Rattle.terms.specs.declared.call.Call.TheVariants as call
@@ -114,4 +114,4 @@ worked =
     ∷ []
 
 abbrev pub Figures : Type 0
-Figures = All Stands worked
+Figures = AllByRecursion Stands worked

@@ -1,6 +1,6 @@
 -- A price lies between the lowest and the highest price that it is made of.
 use Rattle.std.proofs.Common.{◌≡◌, ℕ, ◌+◌, ◌*◌, ◌/◌, ◌<◌, ◌≤◌, List, [], ◌∷◌, Some, None, sum_by, Option, sym, refl, ap, ◌∙◌, subst, mul-le-mul_right, mul-zero, mul-add, arith}
-use Rattle.std.specs.List.{AllByRecursion as All}
+use Rattle.std.specs.List.{AllByRecursion}
 use Rattle.std.proofs.lemmas.List.Sums.{sum_by-cons}
 use Rattle.price.specs.declared.day.Trade.{Trade}
 use Rattle.price.specs.declared.day.Session.{Session}
@@ -12,13 +12,13 @@ use Rattle.price.specs.Rules.{MeanOf, Quoted, Gives, Between, prices, both, list
 use Rattle.price.proofs.Means.{mean_low, mean_high, nearest_only}
 
 -- the money of trades whose prices have a bound
-pub value_low : (k : ℕ) (ts : List Trade) → All (λ q. k ≤ q) (prices ts) → k * volume ts ≤ value ts
+pub value_low : (k : ℕ) (ts : List Trade) → AllByRecursion (λ q. k ≤ q) (prices ts) → k * volume ts ≤ value ts
 value_low k [] a = omega (arith, mul-zero k)
 value_low k (t ∷ ts) a =
     let here = mul-le-mul_right t.count a.0 in
     omega (arith, value_low k ts a.1, sum_by-cons (λ t. t.count) t ts, sum_by-cons (λ t. t.price * t.count) t ts, ap (λ n. k * n) (sum_by-cons (λ t. t.count) t ts), mul-add k t.count (volume ts))
 
-pub value_high : (k : ℕ) (ts : List Trade) → All (λ q. q ≤ k) (prices ts) → value ts ≤ k * volume ts
+pub value_high : (k : ℕ) (ts : List Trade) → AllByRecursion (λ q. q ≤ k) (prices ts) → value ts ≤ k * volume ts
 value_high k [] a = omega (arith, mul-zero k)
 value_high k (t ∷ ts) a =
     let here = mul-le-mul_right t.count a.0 in

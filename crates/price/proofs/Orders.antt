@@ -1,6 +1,6 @@
 -- The order of the trades changes at most the place of a refusal.
 use Rattle.std.proofs.Common.{◌≡◌, ℕ, ◌+◌, ◌*◌, ◌<◌, ◌≤◌, Bool, true, false, cond, ◌&&◌, leb, List, [], ◌∷◌, length, Some, None, sum_by, filter, Option, sym, refl, ap, ◌∙◌, subst, arith}
-use Rattle.std.specs.List.{AllByRecursion as All}
+use Rattle.std.specs.List.{AllByRecursion}
 use Rattle.std.specs.List.Sorted.{IsPermutation}
 use Rattle.std.proofs.lemmas.List.Sorted.{IsPermutation-sym, length_permutation, sum_by-IsPermutation}
 use Rattle.std.proofs.ByRecursion.{all_shuffled}
@@ -34,7 +34,7 @@ first_alike f g e (r ∷ rs) = λ i. or_else (e r i) r (first_alike f g e rs i)
 
 -- all trades fit exactly where there is no first that does not
 abbrev pub Fit : ℕ → List Trade → Type 0
-Fit last ts = All (λ t. trade_fits last t ≡ true) ts
+Fit last ts = AllByRecursion (λ t. trade_fits last t ≡ true) ts
 
 pub all_fit : (last k : ℕ) (ts : List Trade) → first_unfit last k ts ≡ None → Fit last ts
 all_fit last k [] e = tt

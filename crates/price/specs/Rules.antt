@@ -1,6 +1,6 @@
 -- The rules of the settlement price as relations, and what is true of every price that is found.
 use Rattle.std.specs.Prelude.{◌≡◌, ℕ, ◌+◌, ◌*◌, ◌<◌, ◌≤◌, false, List, [], ◌∷◌, map, is_ok, IfOk, Some, None, Ok, Err, Option, Result}
-use Rattle.std.specs.List.{AllByRecursion as All}
+use Rattle.std.specs.List.{AllByRecursion}
 use Rattle.std.specs.List.Sorted.{IsPermutation}
 use Rattle.terms.specs.declared.fault.Fault.{Fault}
 use Rattle.terms.specs.declared.fault.Layer.{Layer}
@@ -72,8 +72,8 @@ made_of s ts Committee = listed s.committee
 
 -- not below the lowest of these prices, and not above the highest
 pub record Between (ps : List ℕ) (p : ℕ) : Type 0 where
-  pub low : (k : ℕ) → All (λ q. k ≤ q) ps → k ≤ p
-  pub high : (k : ℕ) → All (λ q. q ≤ k) ps → p ≤ k
+  pub low : (k : ℕ) → AllByRecursion (λ q. k ≤ q) ps → k ≤ p
+  pub high : (k : ℕ) → AllByRecursion (λ q. q ≤ k) ps → p ≤ k
 
 -- an answer but for the place of a refusal
 abbrev pub placeless : Priced → Result (ℕ × ℕ) (Layer × ℕ)

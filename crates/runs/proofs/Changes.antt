@@ -2,7 +2,7 @@
 use Rattle.std.proofs.Common.{◌≡◌, ℕ, ◌+◌, ◌-◌, Bool, true, false, cond, not, eqb, leb, List, [], ◌∷◌, length, get_or, set, ℤ, pos, ◌+ℤ◌, ◌-ℤ◌, neg_ℤ, is_some, Some, None, Option, unwrap_or, sym, refl, ap, ◌∙◌, inl, inr, arith}
 use lib.IntN.{+ℤ_idr}
 use Rattle.std.specs.Option.{option_to_list}
-use Rattle.std.specs.List.{AllByRecursion as All}
+use Rattle.std.specs.List.{AllByRecursion}
 use Rattle.std.proofs.ByRecursion.{All-weaker}
 use Rattle.std.proofs.lemmas.List.{get_or-set_other, get_or-set_same}
 use Rattle.std.proofs.lemmas.Bool.{both_ways, eqb-true, eqb-false, ne_eqb, not-false, and_parts, leb-true}
@@ -32,7 +32,7 @@ pub record Change (s t : State) (c : Call) (a : Answer) (n : ℕ) (nd ds : List 
 
 -- every deal was made in a series of the room that was listed
 abbrev pub Dealt : State → List Deal → Type 0
-Dealt s ds = All (λ d. (is_series d.series ≡ true) × (ever_listed (series_at s d.series).stage ≡ true)) ds
+Dealt s ds = AllByRecursion (λ d. (is_series d.series ≡ true) × (ever_listed (series_at s d.series).stage ≡ true)) ds
 
 -- every customer's broker is one
 abbrev pub Brokered : Option ℕ → Type 0

@@ -1,6 +1,6 @@
 -- Sums over customers.
 use Rattle.std.proofs.Common.{◌≡◌, ℕ, zero, suc, ◌+◌, ◌<◌, ◌≤◌, Bool, true, false, cond, eqb, leb, List, [], ◌∷◌, ℤ, pos, negsuc, ◌+ℤ◌, ◌-ℤ◌, sum_by, refl, ap, ◌∙◌, inl, inr, arith}
-use Rattle.std.specs.List.{range_with_len, AllByRecursion as All}
+use Rattle.std.specs.List.{range_with_len, AllByRecursion}
 use Rattle.std.proofs.lemmas.Int.{ints}
 use Rattle.std.proofs.lemmas.List.Sums.{sum_by-cons}
 use Rattle.std.proofs.lemmas.Bool.{cases_eq, eq-eqb, ne_eqb, and_parts, leb-true}
@@ -14,7 +14,7 @@ abbrev pub over : (ℕ → ℤ) → List ℕ → ℤ
 over f [] = pos 0
 over f (n ∷ ns) = f n +ℤ over f ns
 
-pub over_same : (f g : ℕ → ℤ) (ns : List ℕ) → All (λ n. f n ≡ g n) ns → over f ns ≡ over g ns
+pub over_same : (f g : ℕ → ℤ) (ns : List ℕ) → AllByRecursion (λ n. f n ≡ g n) ns → over f ns ≡ over g ns
 over_same f g [] a = refl
 over_same f g (n ∷ ns) a = λ i. a.0 i +ℤ over_same f g ns a.1 i
 
@@ -60,7 +60,7 @@ side_level d buyer seller =
     omega (arith, linear, over_minus (λ n. mine n d.buyer (pos d.count)) (λ n. mine n d.seller (pos d.count)) (range_with_len 1 customers), one_customer d.buyer (pos d.count) buyer, one_customer d.seller (pos d.count) seller)
 
 abbrev pub Parties : List Deal → Type 0
-Parties ds = All (λ d. (is_customer d.buyer ≡ true) × (is_customer d.seller ≡ true)) ds
+Parties ds = AllByRecursion (λ d. (is_customer d.buyer ≡ true) × (is_customer d.seller ≡ true)) ds
 
 pub net_level : (i : ℕ) (ds : List Deal) → Parties ds → over (λ n. net n i ds) (range_with_len 1 customers) ≡ pos 0
 net_level i [] p = over_none (range_with_len 1 customers)

@@ -1,6 +1,6 @@
 -- No position of a customer under notice grows or changes its side.
 use Rattle.std.proofs.Common.{◌≡◌, ℕ, zero, suc, ◌+◌, ◌-◌, ◌≤◌, min, Bool, true, false, cond, not, ◌&&◌, ◌||◌, eqb, ltb, leb, ◌⊎◌, List, [], ◌∷◌, ◌++◌, length, get_or, set, ℤ, pos, ◌+ℤ◌, neg_ℤ, nat_abs, is_some, Some, None, sym, refl, ap, subst, inl, inr, arith}
-use Rattle.std.specs.List.{AllByRecursion as All}
+use Rattle.std.specs.List.{AllByRecursion}
 use Rattle.std.proofs.lemmas.List.FromFn.{get_or-map-range_with_len}
 use Rattle.std.proofs.lemmas.List.{get_or-map}
 use Rattle.std.proofs.lemmas.Bool.{both_ways, eq-eqb, eqb-false, cases_Bool, leb-true, or_parts}
@@ -16,7 +16,7 @@ use Rattle.runs.proofs.Flags.{set_either, seat}
 use Rattle.runs.proofs.Refused.{all_none, all_front, not_refused, closes_or}
 use Rattle.runs.proofs.Signs.{unmoved, to_nought, closing_shrinks, sells, buys}
 
-pub passed : (s : State) (c : Call) → refusal s c ≡ None → All (λ o. o ≡ None) (room_refusals s c ++ (book_refuses s (posts s c) ∷ []))
+pub passed : (s : State) (c : Call) → refusal s c ≡ None → AllByRecursion (λ o. o ≡ None) (room_refusals s c ++ (book_refuses s (posts s c) ∷ []))
 passed s c accepted = all_none (room_refusals s c ++ (book_refuses s (posts s c) ∷ [])) accepted
 
 -- a position of a row
@@ -108,7 +108,7 @@ in_range_low low high n h = by (leb low n) refl h
     by false e t = absurd (let z : ◌≡◌ {A = ℕ} 0 1 = cc in omega arith)
 
 module _ (s : State) (c o i offer q : ℕ) (accepted : refusal s (call.Force c o i offer q) ≡ None) where
-  entries : All (λ r. r ≡ None) (room_refusals s (call.Force c o i offer q) ++ (book_refuses s (posts s (call.Force c o i offer q)) ∷ []))
+  entries : AllByRecursion (λ r. r ≡ None) (room_refusals s (call.Force c o i offer q) ++ (book_refuses s (posts s (call.Force c o i offer q)) ∷ []))
   entries = passed s (call.Force c o i offer q) accepted
 
   apart : eqb c o ≡ false
@@ -127,9 +127,9 @@ module _ (s : State) (c o i offer q : ℕ) (accepted : refusal s (call.Force c o
   to_short : Deal
   to_short = record { buyer = c; seller = o; series = i; count = forced s c i offer q; price = q }
 
-  of_other : (d : Deal) → force_deal s c o i offer q ≡ d → All (λ r. r ≡ None) (counterparty s o i d)
+  of_other : (d : Deal) → force_deal s c o i offer q ≡ d → AllByRecursion (λ r. r ≡ None) (counterparty s o i d)
   of_other d is =
-      subst (λ x. All (λ r. r ≡ None) (counterparty s o i x)) is
+      subst (λ x. AllByRecursion (λ r. r ≡ None) (counterparty s o i x)) is
       (all_front (counterparty s o i (force_deal s c o i offer q)) _ entries.1.1.1.1.1.1.1.1.1.1)
 
   -- the first party closes, the other stands
@@ -142,11 +142,11 @@ module _ (s : State) (c o i offer q : ℕ) (accepted : refusal s (call.Force c o
       elim (cases_Bool (is_long (position s c i))) [
         | inl long ↦
             let is : force_deal s c o i offer q ≡ from_long = ap (λ b. cond b from_long to_short) long in
-            let other = subst (All (λ r. r ≡ None)) (ap (λ t. cond t buying selling) (eq-eqb o o refl)) (of_other from_long is) in
+            let other = subst (AllByRecursion (λ r. r ≡ None)) (ap (λ t. cond t buying selling) (eq-eqb o o refl)) (of_other from_long is) in
             subst (Agreed s) (sym is) (closes_or _ _ _ _ _ other.0 other.1.0, inl (sells (position s c i) count long within))
         | inr short ↦
             let is : force_deal s c o i offer q ≡ to_short = ap (λ b. cond b from_long to_short) short in
-            let other = subst (All (λ r. r ≡ None)) (ap (λ t. cond t buying selling) apart) (of_other to_short is) in
+            let other = subst (AllByRecursion (λ r. r ≡ None)) (ap (λ t. cond t buying selling) apart) (of_other to_short is) in
             subst (Agreed s) (sym is) (inl (buys (position s c i) count short within), closes_or _ _ _ _ _ other.0 other.1.0)
       ]
 

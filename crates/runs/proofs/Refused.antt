@@ -1,6 +1,6 @@
 -- What is known of a call that is not refused.
 use Rattle.std.proofs.Common.{◌≡◌, ℕ, Bool, true, false, not, ◌&&◌, ◌⊎◌, List, [], ◌∷◌, ◌++◌, Some, None, Option, sym, refl, inl, inr, arith}
-use Rattle.std.specs.List.{AllByRecursion as All}
+use Rattle.std.specs.List.{AllByRecursion}
 use Rattle.terms.specs.declared.fault.Fault.{Fault}
 use Rattle.steps.specs.Refusals.{refuse, first}
 
@@ -8,12 +8,12 @@ pub none_some : {X Y : Type 0} {x : X} → None ≡ Some x → Y
 none_some {x = x} e = let z : ◌≡◌ {A = ℕ} 0 1 = cc in absurd (omega arith)
 
 -- none of its refusals holds
-pub all_none : (xs : List (Option Fault)) → first xs ≡ None → All (λ o. o ≡ None) xs
+pub all_none : (xs : List (Option Fault)) → first xs ≡ None → AllByRecursion (λ o. o ≡ None) xs
 all_none [] h = tt
 all_none (None ∷ xs) h = (refl, all_none xs h)
 all_none (Some f ∷ xs) h = none_some (sym h)
 
-pub all_front : (xs ys : List (Option Fault)) → All (λ o. o ≡ None) (xs ++ ys) → All (λ o. o ≡ None) xs
+pub all_front : (xs ys : List (Option Fault)) → AllByRecursion (λ o. o ≡ None) (xs ++ ys) → AllByRecursion (λ o. o ≡ None) xs
 all_front [] ys h = tt
 all_front (x ∷ xs) ys h = (h.0, all_front xs ys h.1)
 

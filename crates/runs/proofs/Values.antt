@@ -1,7 +1,7 @@
 -- Fees and gains of deals, as prices move.
 use Rattle.std.proofs.Common.{◌≡◌, ℕ, ◌-◌, ◌*◌, Bool, true, false, cond, eqb, List, [], ◌∷◌, ◌++◌, ℤ, pos, ◌+ℤ◌, ◌-ℤ◌, ◌*ℤ◌, neg_ℤ, sym, refl, ap, ◌∙◌, inl, inr, arith}
 use lib.IntN.{zero-*ℤ, +ℤ_idr}
-use Rattle.std.specs.List.{AllByRecursion as All}
+use Rattle.std.specs.List.{AllByRecursion}
 use Rattle.std.proofs.lemmas.Bool.{eqb-true, cases_Bool}
 use Rattle.book.proofs.Added.{linear}
 use Rattle.steps.specs.State.{State, Series, series_at}
@@ -14,7 +14,7 @@ pub deals_append : (f : Deal → ℤ) (xs ys : List Deal) → over_deals f (xs +
 deals_append f [] ys = omega (arith, linear)
 deals_append f (x ∷ xs) ys = omega (arith, linear, deals_append f xs ys)
 
-pub deals_same : (f g : Deal → ℤ) (ds : List Deal) → All (λ d. f d ≡ g d) ds → over_deals f ds ≡ over_deals g ds
+pub deals_same : (f g : Deal → ℤ) (ds : List Deal) → AllByRecursion (λ d. f d ≡ g d) ds → over_deals f ds ≡ over_deals g ds
 deals_same f g [] a = refl
 deals_same f g (d ∷ ds) a = λ i. a.0 i +ℤ deals_same f g ds a.1 i
 
@@ -96,11 +96,11 @@ module _ (s t : State) (n i q : ℕ) where
       let step = pos q -ℤ pos (series_at s i).price in
       ap (λ z. z *ℤ step) (+ℤ-*ℤ x y size) ∙ +ℤ-*ℤ (x *ℤ size) (y *ℤ size) step
 
-  pub gains_repriced : (ds : List Deal) → All (λ d. Repriced s t i q d.series) ds → over_deals (gain_of t n) ds ≡ over_deals (gain_of s n) ds +ℤ shift (net n i ds)
+  pub gains_repriced : (ds : List Deal) → AllByRecursion (λ d. Repriced s t i q d.series) ds → over_deals (gain_of t n) ds ≡ over_deals (gain_of s n) ds +ℤ shift (net n i ds)
   gains_repriced [] rows = ap (λ z. pos 0 +ℤ z) (sym nought)
   gains_repriced (d ∷ ds) rows =
       omega (arith, linear, gain_repriced d rows.0, gains_repriced ds rows.1, shift_plus (cond (eqb i d.series) (side n d) (pos 0)) (net n i ds))
 
-  pub fees_repriced : (ds : List Deal) → All (λ d. Repriced s t i q d.series) ds → over_deals (fee_of t n) ds ≡ over_deals (fee_of s n) ds
+  pub fees_repriced : (ds : List Deal) → AllByRecursion (λ d. Repriced s t i q d.series) ds → over_deals (fee_of t n) ds ≡ over_deals (fee_of s n) ds
   fees_repriced [] rows = refl
   fees_repriced (d ∷ ds) rows = λ j. fee_same s t n d rows.0.fee j +ℤ fees_repriced ds rows.1 j
