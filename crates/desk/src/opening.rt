@@ -17,7 +17,7 @@ use terms::ranges::{BrokerNumber, Count, CustomerNumber, Fee, Price, SeriesNumbe
 
 // That every balance is 0.
 fn check_empty<const N: u64, B: Book<N>>(book: &B) -> Result<(), Fault>
-    ensures { Granted result (not_empty 1 (balances book.now)) (λ _. Unit {0}) }
+    ensures { Granted result (not_empty 1 (B.balances book.now)) (λ _. Unit {0}) }
 {
     for i in 0..ACCOUNTS {
         let account = i + 1;

@@ -5,15 +5,15 @@ use Rattle.tables.specs.Views.{series_of}
 use Rattle.desk.proofs.Turns.{unmarked_here, unmarked_on}
 use Rattle.desk.proofs.checks.check_marks.Goals as goal
 
-pub returns-then-lacks-mark : goal.returns-then-lacks-mark
-returns-then-lacks-mark c =
+pub returns-then-lacks_mark : goal.returns-then-lacks_mark
+returns-then-lacks_mark c =
     let all = c.told-all in
-    sym c.loop-i.invariant ∙ unmarked_here c.args.all.now c.loop-i.i _ _ (omega arith) c.lacks-mark.ensures c.if-lacks-mark.true
+    sym c.loop-i.invariant ∙ unmarked_here c.args.all.now c.loop-i.i _ _ (omega arith) c.lacks_mark.ensures c.if-lacks_mark.true
 
 pub loop-i-preserved : goal.loop-i-preserved
 loop-i-preserved c =
     let all = c.told-all in
-    sym (unmarked_on c.args.all.now c.loop-i.i _ _ (omega arith) c.lacks-mark.ensures c.if-lacks-mark.false) ∙ c.loop-i.invariant
+    sym (unmarked_on c.args.all.now c.loop-i.i _ _ (omega arith) c.lacks_mark.ensures c.if-lacks_mark.false) ∙ c.loop-i.invariant
 
 pub returns : goal.returns
 returns c =

@@ -18,7 +18,7 @@ loop-at-preserved c =
     let row = read customer_of c.args.customers.now.table.rows i (i + 1 - 1) c.index-customers-at.result no_customer (omega (arith, c.args.customers.now.all)) (omega arith) in
     let held = c.get-position.ensures ∙ ap (λ x. get_or x.positions (c.args.number.value - 1) (pos 0)) row in
     let is =
-    to_z-of_z w64 c.revalued.result (record { sfits = c.revalued.type-inv }) ∙ c.revalued.ensures
+    to_z-of_z w64 c.revalued.result (record { sfits = c.revalued.type_inv }) ∙ c.revalued.ensures
     ∙ ap (λ z. z *ℤ pos x.size *ℤ (pos c.args.price.value -ℤ pos x.price)) held
     in
     one_written (for_customers g) c.loop-at.amounts i _ (omega arith) (is ∙ for_customer g i h) c.loop-at.invariant

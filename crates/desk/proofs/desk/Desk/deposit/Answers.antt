@@ -6,28 +6,28 @@ use Rattle.desk.proofs.Steps.{same_desk, refused, declined, done}
 use Rattle.desk.proofs.Posts.{posts_alone}
 use Rattle.desk.proofs.desk.Desk.deposit.Goals as goal
 
-pub returns-in-err-payer : goal.returns-in-err-payer
-returns-in-err-payer g c =
+pub returns-in_err-payer : goal.returns-in_err-payer
+returns-in_err-payer g c =
     let s = state g.B.Book g.R.MarginRule c.args.self.now in
     let call = Deposit c.args.account c.args.amount in
     record {
-      moves = refused s call _ c.from-residual.result c.from-residual.ensures.1 c.in-err-payer.ensures;
+      moves = refused s call _ c.from_residual.result c.from_residual.ensures.1 c.in_err-payer.ensures;
       lent = refl;
       place = g.B.Book.laws.stays _;
       same = λ _. refl;
     }
 
-pub returns-in-err-post-all : goal.returns-in-err-post-all
-returns-in-err-post-all g c =
+pub returns-in_err-post_all : goal.returns-in_err-post_all
+returns-in_err-post_all g c =
     let s = state g.B.Book g.R.MarginRule c.args.self.now in
     let call = Deposit c.args.account c.args.amount in
-    let h = c.in-ok-payer.ensures in
-    let a = c.in-err-post-all.ensures in
-    let r = c.from-residual-in-err-post-all in
-    let p = posts_alone s call c.for-one-amounts.ensures h.1.0 (omega (arith, ints, c.get.ensures, h.1.1)) refl in
-    let d = same_desk c.args.self.now c.post-all.new.book (a.whole refl) in
+    let h = c.in_ok-payer.ensures in
+    let a = c.in_err-post_all.ensures in
+    let r = c.from_residual-in_err-post_all in
+    let p = posts_alone s call c.for_one-amounts.ensures h.1.0 (omega (arith, ints, c.get.ensures, h.1.1)) refl in
+    let d = same_desk c.args.self.now c.post_all.new.book (a.whole refl) in
     record {
-      moves = declined s call h.0 c.for-one-amounts.result p _ _ r.result r.ensures.1 a.answer (ap (state g.B.Book g.R.MarginRule) d);
+      moves = declined s call h.0 c.for_one-amounts.result p _ _ r.result r.ensures.1 a.answer (ap (state g.B.Book g.R.MarginRule) d);
       lent = refl;
       place = a.place;
       same = λ _. d;
@@ -37,11 +37,11 @@ pub returns : goal.returns
 returns g c =
     let s = state g.B.Book g.R.MarginRule c.args.self.now in
     let call = Deposit c.args.account c.args.amount in
-    let h = c.in-ok-payer.ensures in
-    let a = c.in-ok-post-all.ensures in
-    let p = posts_alone s call c.for-one-amounts.ensures h.1.0 (omega (arith, ints, c.get.ensures, h.1.1)) refl in
+    let h = c.in_ok-payer.ensures in
+    let a = c.in_ok-post_all.ensures in
+    let p = posts_alone s call c.for_one-amounts.ensures h.1.0 (omega (arith, ints, c.get.ensures, h.1.1)) refl in
     record {
-      moves = done s call h.0 c.for-one-amounts.result p _ _ _ _ a.answer refl refl a.after a.spent;
+      moves = done s call h.0 c.for_one-amounts.result p _ _ _ _ a.answer refl refl a.after a.spent;
       lent = refl;
       place = a.place;
       same = search rules;

@@ -7,11 +7,11 @@ use Rattle.desk.proofs.Quiet.{quiet}
 use Rattle.desk.proofs.Steps.{refused}
 use Rattle.desk.proofs.desk.Desk.enrol.Goals as goal
 
-pub returns-in-err-newcomer : goal.returns-in-err-newcomer
-returns-in-err-newcomer g c =
+pub returns-in_err-newcomer : goal.returns-in_err-newcomer
+returns-in_err-newcomer g c =
     let s = state g.B.Book g.R.MarginRule c.args.self.now in
     record {
-      moves = refused s (Enrol c.args.customer c.args.broker) _ c.from-residual.result c.from-residual.ensures.1 c.in-err-newcomer.ensures;
+      moves = refused s (Enrol c.args.customer c.args.broker) _ c.from_residual.result c.from_residual.ensures.1 c.in_err-newcomer.ensures;
       lent = refl;
       place = g.B.Book.laws.stays _;
       same = λ _. refl;
@@ -21,7 +21,7 @@ pub returns : goal.returns
 returns g c =
     let s = state g.B.Book g.R.MarginRule c.args.self.now in
     let b = c.args.self.now.book.now in
-    let h = c.in-ok-newcomer.ensures in
+    let h = c.in_ok-newcomer.ensures in
     let tabled = c.enrol.ensures ∙ (λ i. set s.customers (h.1.0 i - 1) (under_broker (customer s (h.1.0 i)) (h.1.1 i))) in
     record {
       moves = quiet s (Enrol c.args.customer c.args.broker) (g.B.Book.laws.bounded b) h.0 refl _ _ tabled refl;

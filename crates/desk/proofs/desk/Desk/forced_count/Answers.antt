@@ -15,4 +15,4 @@ returns g c =
     let held = ap (λ r. r.positions) c.get-row.ensures in
     let fits : SFits w64 c.balance.result = search rules in
     let has : to_z w64 (of_z w64 c.balance.result) ≡ balance s t.one.value = to_z-of_z w64 c.balance.result fits ∙ c.balance.ensures.answer ∙ ap (balance s) c.get.ensures in
-    c.least-count.ensures ∙ (λ j. least (suffices s.rule s.series (held j) i (has j) t.price.value) (min t.count.value (nat_abs (get_or (held j) (i - 1) (pos 0)))))
+    c.least_count.ensures ∙ (λ j. least (suffices s.rule s.series (held j) i (has j) t.price.value) (min t.count.value (nat_abs (get_or (held j) (i - 1) (pos 0)))))

@@ -12,12 +12,12 @@ use Rattle.desk.proofs.desk.Desk.notices.Goals as goal
 pub returns : goal.returns
 returns g c =
     let s = state g.B.Book g.R.MarginRule c.args.self.now in
-    let t = c.turn-notices-called.ensures in
+    let t = c.turn_notices-called.ensures in
     let q =
-    quiet s Notices (g.B.Book.laws.bounded c.args.self.now.book.now) c.in-ok-check-notices.ensures.0 refl
-    (customers_of c.turn-notices-called.new.customers) (all_series_of c.clear-marks.new.self)
+    quiet s Notices (g.B.Book.laws.bounded c.args.self.now.book.now) c.in_ok-check_notices.ensures.0 refl
+    (customers_of c.turn_notices-called.new.customers) (all_series_of c.clear_marks.new.self)
     (t.after ∙ (λ i. map (λ n. called_one (customer s n) (below_minimum s n) i) (range_with_len 1 customers)))
-    c.clear-marks.ensures
+    c.clear_marks.ensures
     in
     record {
       moves = (q.0, t.count, q.2);

@@ -7,26 +7,26 @@ use Rattle.desk.proofs.Bargains.{unstruck, strikes}
 use Rattle.desk.proofs.Steps.{refused}
 use Rattle.desk.proofs.desk.Desk.trade.Goals as goal
 
-pub returns-in-err-bargain : goal.returns-in-err-bargain
-returns-in-err-bargain g c =
+pub returns-in_err-bargain : goal.returns-in_err-bargain
+returns-in_err-bargain g c =
     let s = state g.B.Book g.R.MarginRule c.args.self.now in
     let a = c.args in
     record {
-      moves = refused s (Trade a.buyer a.seller a.series a.count a.price) _ c.from-residual.result c.from-residual.ensures.1 c.in-err-bargain.ensures;
+      moves = refused s (Trade a.buyer a.seller a.series a.count a.price) _ c.from_residual.result c.from_residual.ensures.1 c.in_err-bargain.ensures;
       lent = refl;
       place = g.B.Book.laws.stays _;
       same = λ _. refl;
     }
 
-pub returns-in-err-strike : goal.returns-in-err-strike
+pub returns-in_err-strike : goal.returns-in_err-strike
 unfolding posts
-returns-in-err-strike g c =
+returns-in_err-strike g c =
     let s = state g.B.Book g.R.MarginRule c.args.self.now in
     let a = c.args in
-    let h = c.in-ok-bargain.ensures in
-    let k = c.in-err-strike.ensures in
-    let r = c.from-residual-in-err-strike in
-    let d = deal_of c.in-ok-bargain.bargain in
+    let h = c.in_ok-bargain.ensures in
+    let k = c.in_err-strike.ensures in
+    let r = c.from_residual-in_err-strike in
+    let d = deal_of c.in_ok-bargain.bargain in
     record {
       moves = unstruck s (Trade a.buyer a.seller a.series a.count a.price) d h.0 (ap (deal_posts s) h.1.0) _ _ r.result r.ensures.1 k.strikes.0 k.strikes.1;
       lent = k.lent;
@@ -39,9 +39,9 @@ unfolding posts
 returns g c =
     let s = state g.B.Book g.R.MarginRule c.args.self.now in
     let a = c.args in
-    let h = c.in-ok-bargain.ensures in
-    let k = c.in-ok-strike.ensures in
-    let d = deal_of c.in-ok-bargain.bargain in
+    let h = c.in_ok-bargain.ensures in
+    let k = c.in_ok-strike.ensures in
+    let d = deal_of c.in_ok-bargain.bargain in
     record {
       moves = strikes s (Trade a.buyer a.seller a.series a.count a.price) d h.0 (ap (deal_posts s) h.1.0) _ k.strikes.0 k.strikes.1 (ap (struck s) h.1.0);
       lent = k.lent;
