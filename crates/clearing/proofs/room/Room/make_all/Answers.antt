@@ -13,7 +13,7 @@ use Rattle.clearing.proofs.room.Room.make_all.Goals as goal
 pub loop-call-init : goal.loop-call-init
 loop-call-init g c =
     let s = state_of g.B.Book g.R.MarginRule c.args.self.now in
-    let m = c.in-ok-answers.ensures in
+    let m = c.in_ok-answers.ensures in
     (m.len, m.capacity, subst (λ (os : List (Result Answer Fault)). Plays s [] os s) (sym m.items) refl, refl, g.B.Book.laws.stays _)
 
 pub loop-call-preserved : goal.loop-call-preserved
@@ -23,7 +23,7 @@ loop-call-preserved g c =
     let calls = c.args.calls.now in
     let i = c.loop-call.call-index in
     let v = c.loop-call.invariant in
-    let e = c.push-reserved.ensures in
+    let e = c.push_reserved.ensures in
     let m = c.make.ensures in
     let p = plays_more (take i calls) (vec_items c.loop-call.answers) s _ to _ c.make.result v.2 m.step in (
       omega (arith, e.len, v.0),
