@@ -9,11 +9,11 @@ use Rattle.day_sheet.proofs.Columns.{answers_fit, unread_fit}
 use Rattle.day_sheet.proofs.Rooms.{ranged}
 use Rattle.day_sheet.proofs.lines.carry_line.Goals as goal
 
-pub returns-in-err-call : goal.returns-in-err-call
-returns-in-err-call g c =
+pub returns-in_err-call : goal.returns-in_err-call
+returns-in_err-call g c =
     let s = state_of g.B.Book g.R.MarginRule c.args.room.now in
-    let said = c.in-err-call.ensures.value in
-    let r = c.from-residual in
+    let said = c.in_err-call.ensures.value in
+    let r = c.from_residual in
     let p = err_from_is_err_and r.result r.ensures.1 in
     let is = p.1 ∙ ap Err p.2 in
     record {
@@ -28,8 +28,8 @@ pub returns : goal.returns
 returns g c =
     let s = state_of g.B.Book g.R.MarginRule c.args.room.now in
     let to = state_of g.B.Book g.R.MarginRule c.make.new.self in
-    let read = c.in-ok-call.ensures in
-    let call = c.in-ok-call.call in
+    let read = c.in_ok-call.ensures in
+    let call = c.in_ok-call.call in
     let m = c.make.ensures in
     record {
       step = subst (λ (x : Result Call Fault). Carries s x c.make.result to) read.value m.step;

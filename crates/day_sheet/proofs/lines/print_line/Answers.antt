@@ -15,7 +15,7 @@ pub loop-byte-preserved : goal.loop-byte-preserved
 loop-byte-preserved c =
     let i = c.loop-byte.byte-index in
     let v = c.loop-byte.invariant in
-    let e = c.push-reserved.ensures in
+    let e = c.push_reserved.ensures in
     let bytes = c.in-Some.bytes in
     let long = c.in-Some.ensures.shown.long in
     let h : i < length bytes = omega (arith, long, c.loop-byte-test.true) in (
@@ -24,8 +24,8 @@ loop-byte-preserved c =
       e.capacity ∙ v.2,
     )
 
-pub push-reserved-requires : goal.push-reserved-requires
-push-reserved-requires c = omega (arith, c.loop-byte.invariant.1, c.loop-byte.invariant.2, c.requires.memory, c.loop-byte-test.true)
+pub push_reserved-requires : goal.push_reserved-requires
+push_reserved-requires c = omega (arith, c.loop-byte.invariant.1, c.loop-byte.invariant.2, c.requires.memory, c.loop-byte-test.true)
 
 -- the bytes of a line that fits
 fitted : (p q : PrintedLine) → p ≡ q → fitting q ≡ true → printed_of p ≡ Some (columns_of q)
@@ -45,6 +45,6 @@ returns c =
       capacity = v.2;
     }
 
-pub returns-in-default : goal.returns-in-default
-returns-in-default c =
-    absurd (c.in-default.not-Some _ (c.bytes.ensures.value ∙ fitted c.new.result _ c.new.ensures c.requires.fit))
+pub returns-in_default : goal.returns-in_default
+returns-in_default c =
+    absurd (c.in_default.not-Some _ (c.bytes.ensures.value ∙ fitted c.new.result _ c.new.ensures c.requires.fit))
