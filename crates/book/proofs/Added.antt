@@ -1,5 +1,5 @@
 -- Balances and amounts added.
-use Rattle.std.proofs.Common.{◌≡◌, ℕ, zero, suc, ◌+◌, ◌<◌, ◌≤◌, List, [], ◌∷◌, length, get_or, take, set, ℤ, pos, ◌+ℤ◌, refl, ap, arith}
+use Rattle.std.proofs.Common.{◌≡◌, ℕ, zero, suc, ◌<◌, ◌≤◌, List, [], ◌∷◌, length, get_or, take, set, ℤ, pos, ◌+ℤ◌, refl, ap, arith}
 use borrow.Author.Differences.{same_out, same_in, sum_is_lem, neg_is}
 use Rattle.book.specs.Balances.{of_account, total}
 use Rattle.book.specs.Postings.{added}

@@ -1,5 +1,5 @@
 -- Amounts for the customers, written one after the other.
-use Rattle.std.proofs.Common.{◌≡◌, ℕ, ◌+◌, ◌-◌, ◌<◌, ◌≤◌, cond, ◌&&◌, leb, ◌≢◌, List, map, length, get_or, set, ℤ, pos, sym, refl, ◌∙◌, inl, inr, arith, length-set, get_or-set_other, get_or-set_same, below_more}
+use Rattle.std.proofs.Common.{◌≡◌, ℕ, ◌+◌, ◌<◌, ◌≤◌, cond, ◌&&◌, leb, ◌≢◌, List, map, length, get_or, set, ℤ, pos, sym, refl, ◌∙◌, inl, inr, arith, length-set, get_or-set_other, get_or-set_same, below_more}
 use Rattle.std.specs.List.{range_with_len}
 use Rattle.std.proofs.lemmas.List.{get_or-replicate}
 use Rattle.std.proofs.lemmas.Bool.{cond-true, cond-false, le-leb, lt-leb, cases_lt, and_right}

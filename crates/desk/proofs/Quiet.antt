@@ -9,7 +9,7 @@ use Rattle.book.specs.Postings.{added, postings, lowest_out, answer_by, all_answ
 use Rattle.book.proofs.Bounds.{Bounded}
 use Rattle.steps.specs.State.{State, Customer, Series, house}
 use Rattle.steps.specs.Refusals.{first, room_refusals}
-use Rattle.steps.specs.Steps.{post, posts, figure, phase_after, customers_after, series_after}
+use Rattle.steps.specs.Steps.{post, figure, phase_after, customers_after, series_after}
 use Rattle.desk.specs.Moves.{Moves}
 use Rattle.desk.proofs.Posts.{zeros, zeros_are, posts_are}
 use Rattle.desk.proofs.Steps.{done}

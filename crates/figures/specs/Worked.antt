@@ -12,7 +12,7 @@ use Rattle.steps.specs.Steps.{step}
 use Rattle.price.specs.declared.day.Session.{Session}
 use Rattle.price.specs.declared.day.Trade.{Trade}
 use Rattle.price.specs.declared.day.Rule.{Rule}
-use Rattle.price.specs.declared.day.Rule.TheVariants.{LastHalfHour, LastHour, WholeDay, Quotations, Committee}
+use Rattle.price.specs.declared.day.Rule.TheVariants.{LastHalfHour, WholeDay, Quotations}
 use Rattle.margin.specs.Question.{Answers}
 use Rattle.margin.specs.Rules.{flat_rule, share_rule}
 use Rattle.price.specs.Letters.{letter_of}

@@ -1,5 +1,5 @@
 -- A flat rule by its table: what it asks, and one series set anew.
-use Rattle.std.specs.Prelude.{ℕ, ◌-◌, List, map, set, replicate, slice_index_or, slice_set}
+use Rattle.std.specs.Prelude.{ℕ, ◌-◌, List, map, replicate, slice_index_or, slice_set}
 use Rattle.std.proofs.Common.{zero-le}
 use Rattle.margin.specs.declared.tariff.Tariff.{Tariff}
 use Rattle.margin.specs.declared.flat.Flat.{Flat}

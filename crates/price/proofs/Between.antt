@@ -1,5 +1,5 @@
 -- A price lies between the lowest and the highest price that it is made of.
-use Rattle.std.proofs.Common.{◌≡◌, ℕ, ◌+◌, ◌*◌, ◌/◌, ◌<◌, ◌≤◌, List, [], ◌∷◌, Some, None, sum_by, Option, sym, refl, ap, ◌∙◌, subst, mul-le-mul_right, mul-zero, mul-add, arith}
+use Rattle.std.proofs.Common.{◌≡◌, ℕ, ◌+◌, ◌*◌, ◌≤◌, List, [], ◌∷◌, sym, ap, subst, mul-le-mul_right, mul-zero, mul-add, arith}
 use Rattle.std.specs.List.{AllByRecursion}
 use Rattle.std.proofs.lemmas.List.Sums.{sum_by-cons}
 use Rattle.price.specs.declared.day.Trade.{Trade}
@@ -8,7 +8,7 @@ use Rattle.price.specs.declared.day.Rule.{Rule}
 use Rattle.price.specs.declared.day.Rule.TheVariants.{LastHalfHour, LastHour, WholeDay, Quotations, Committee}
 use Rattle.price.specs.Means.{Nearest}
 use Rattle.price.specs.Prices.{volume, value, recent}
-use Rattle.price.specs.Rules.{MeanOf, Quoted, Gives, Between, prices, both, listed, made_of}
+use Rattle.price.specs.Rules.{MeanOf, Gives, Between, prices, both, listed, made_of}
 use Rattle.price.proofs.Means.{mean_low, mean_high, nearest_only}
 
 -- the money of trades whose prices have a bound

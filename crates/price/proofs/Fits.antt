@@ -1,9 +1,9 @@
 -- Input that is in range, part by part.
-use Rattle.std.proofs.Common.{◌≡◌, ℕ, Bool, true, false, cond, ◌&&◌, leb, is_some, Some, None, Option, sym, refl, ◌∙◌}
+use Rattle.std.proofs.Common.{◌≡◌, ℕ, Bool, true, false, cond, ◌&&◌, leb, is_some, Some, None, sym, refl}
 use Rattle.std.proofs.lemmas.Bool.{and_parts, true≢false}
 use Rattle.terms.specs.Ranges.{in_range}
 use Rattle.price.specs.declared.day.Session.{Session}
-use Rattle.price.specs.Prices.{is_second, is_price, price_if_any, session_fits}
+use Rattle.price.specs.Prices.{price_if_any, session_fits}
 
 -- the prices of a session that are perhaps missing
 pub record PricesFit (s : Session) : Type 0 where

@@ -1,26 +1,23 @@
 -- What stands of the answer to a day, and how it comes of the sums.
-use Rattle.std.proofs.Common.{◌≡◌, ℕ, ◌+◌, ◌*◌, ◌/◌, ◌<◌, ◌≤◌, Bool, true, false, cond, ◌&&◌, eqb, leb, List, [], ◌∷◌, length, is_some, is_ok, Some, None, Ok, Err, Option, Result, sym, refl, ap, ◌∙◌, subst, arith}
+use Rattle.std.proofs.Common.{◌≡◌, ℕ, ◌*◌, ◌<◌, ◌≤◌, Bool, true, false, cond, ◌&&◌, leb, List, [], ◌∷◌, length, is_some, Some, None, Ok, Err, Option, Result, sym, refl, ap, ◌∙◌, subst, arith}
 use Rattle.std.specs.Option.{option_map, ok_or}
 use Rattle.std.proofs.lemmas.List.Sums.{sum_by-cons}
 use Rattle.std.proofs.lemmas.Bool.{and_parts, leb-true, ne_eqb, true≢false}
 use Rattle.terms.specs.declared.fault.Fault.{Fault}
 use Rattle.terms.specs.declared.fault.Fault.TheVariants.{PriceInput, NoPrice}
-use Rattle.terms.specs.Ranges.{in_range}
 use Rattle.price.specs.declared.day.Trade.{Trade}
 use Rattle.price.specs.declared.day.Session.{Session}
 use Rattle.price.specs.declared.day.Settlement.{Settlement}
-use Rattle.price.specs.declared.day.Rule.{Rule}
 use Rattle.price.specs.declared.day.Rule.TheVariants.{LastHalfHour, LastHour, WholeDay, Quotations, Committee}
 use Rattle.price.specs.declared.tally.Sums.{Sums}
 use Rattle.price.specs.Means.{nearest, mean}
 use Rattle.price.specs.Letters.{letter_of}
 use Rattle.price.specs.Prices.{session_fits, volume, value, mean_of, by_rule, or_else, first_of, all_rules, quoted, without_trades, is_second, is_price, is_count, trade_fits, first_unfit, refused_at, found, unless_refused, settlement, told}
-use Rattle.price.specs.Rules.{First, Gives, NoneApplies, Between, made_of, placeless, Stands}
+use Rattle.price.specs.Rules.{First, Gives, NoneApplies, placeless, Stands}
 use Rattle.price.specs.Tally.{SumsOf, by_sums, shown}
 use Rattle.price.proofs.Between.{between}
-use Rattle.price.proofs.Fits.{in_range_is}
 use Rattle.price.proofs.Orders.{any_order, all_fit}
-use Rattle.price.proofs.Rules.{none_some, gives, given_by, same_rule, FirstBy, Searched, searched}
+use Rattle.price.proofs.Rules.{none_some, gives, given_by, same_rule, Searched, searched}
 
 ok_err : {T E Y : Type 0} {x : T} {y : E} → Ok x ≡ Err y → Y
 ok_err {x = x} {y = y} e = let z : ◌≡◌ {A = ℕ} 0 1 = cc in absurd (omega arith)

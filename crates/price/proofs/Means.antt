@@ -1,5 +1,5 @@
 -- How a mean stands to the prices that it is made of.
-use Rattle.std.proofs.Common.{◌≡◌, ℕ, ◌+◌, ◌*◌, ◌/◌, ◌<◌, ◌≤◌, sym, mul-le-mul_right, mul_assoc, mul_comm, add-mul, div-mul-le_self, mul_left_comm, arith}
+use Rattle.std.proofs.Common.{◌≡◌, ℕ, ◌+◌, ◌*◌, ◌<◌, ◌≤◌, mul-le-mul_right, mul_assoc, add-mul, div-mul-le_self, mul_left_comm, arith}
 use native.Mathlib.Nat.{lt-div-mul-add, div-eq_of_lt-le}
 use Rattle.std.proofs.lemmas.Nat.{le-div, div_below}
 use Rattle.price.specs.Means.{nearest, Nearest}

@@ -1,5 +1,5 @@
 -- The order of the trades changes at most the place of a refusal.
-use Rattle.std.proofs.Common.{◌≡◌, ℕ, ◌+◌, ◌*◌, ◌<◌, ◌≤◌, Bool, true, false, cond, ◌&&◌, leb, List, [], ◌∷◌, length, Some, None, sum_by, filter, Option, sym, refl, ap, ◌∙◌, subst, arith}
+use Rattle.std.proofs.Common.{◌≡◌, ℕ, ◌+◌, ◌*◌, Bool, true, false, cond, ◌&&◌, leb, List, [], ◌∷◌, length, Some, None, sum_by, filter, Option, sym, refl, ap, ◌∙◌, arith}
 use Rattle.std.specs.List.{AllByRecursion}
 use Rattle.std.specs.List.Sorted.{IsPermutation}
 use Rattle.std.proofs.lemmas.List.Sorted.{IsPermutation-sym, length_permutation, sum_by-IsPermutation}
@@ -10,7 +10,7 @@ use Rattle.price.specs.declared.day.Session.{Session}
 use Rattle.price.specs.declared.day.Rule.{Rule}
 use Rattle.price.specs.declared.day.Rule.TheVariants.{LastHalfHour, LastHour, WholeDay, Quotations, Committee}
 use Rattle.price.specs.Means.{mean}
-use Rattle.price.specs.Prices.{volume, value, is_recent, recent, fifth, quoted, without_trades, by_rule, or_else, first_of, all_rules, session_fits, trade_fits, first_unfit, refused_at, Priced, found, unless_refused, settlement}
+use Rattle.price.specs.Prices.{volume, is_recent, recent, fifth, quoted, without_trades, by_rule, or_else, first_of, all_rules, session_fits, trade_fits, first_unfit, Priced, found, unless_refused, settlement}
 use Rattle.price.specs.Rules.{placeless}
 use Rattle.price.proofs.Rules.{none_some}
 

@@ -1,5 +1,5 @@
 -- The settlement price of a day.
-use Rattle.std.specs.Prelude.{ℕ, suc, ◌+◌, ◌-◌, ◌*◌, Bool, true, cond, ◌&&◌, List, [], ◌∷◌, length, is_some, Some, None, Ok, Err, sum_by, filter, Option, Result, nat_le}
+use Rattle.std.specs.Prelude.{ℕ, ◌+◌, ◌-◌, ◌*◌, Bool, true, cond, ◌&&◌, List, [], ◌∷◌, length, is_some, Some, None, Ok, Err, sum_by, filter, Option, Result, nat_le}
 use Rattle.terms.specs.Faults.{layer_of, number_of, place_of}
 use Rattle.terms.specs.Ranges.{in_range}
 use Rattle.terms.specs.declared.fault.Fault.{Fault}

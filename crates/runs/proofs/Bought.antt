@@ -1,5 +1,5 @@
 -- A position is contracts bought less sold.
-use Rattle.std.proofs.Common.{◌≡◌, ℕ, zero, suc, ◌+◌, ◌-◌, Bool, true, false, cond, not, ◌||◌, eqb, List, [], ◌∷◌, ◌++◌, map, length, get_or, set, ℤ, pos, ◌+ℤ◌, None, sym, refl, ap, ◌∙◌, inl, inr, arith, length-set}
+use Rattle.std.proofs.Common.{◌≡◌, ℕ, zero, suc, ◌-◌, Bool, true, false, cond, ◌||◌, eqb, List, [], ◌∷◌, ◌++◌, map, length, get_or, set, ℤ, pos, ◌+ℤ◌, None, sym, refl, ap, ◌∙◌, inl, inr, arith, length-set}
 use lib.IntN.{+ℤ_comm}
 use lib.ListN.{length-map}
 use Rattle.std.specs.Option.{option_to_list}
@@ -17,7 +17,7 @@ use Rattle.runs.specs.Trading.{side, net, ended, deal_by}
 use Rattle.runs.proofs.Flags.{seat, set_either}
 use Rattle.runs.proofs.Positions.{passed}
 use Rattle.runs.proofs.Refused.{not_refused}
-use Rattle.runs.proofs.Rows.{Full, Fits, place, tables, same_place, set_at, deal_position}
+use Rattle.runs.proofs.Rows.{Full, Fits, place, same_place, set_at, deal_position}
 
 -- the deal that an accepted call makes fits
 module _ (s : State) (b o i : ℕ) where

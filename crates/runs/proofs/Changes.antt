@@ -1,5 +1,5 @@
 -- What one call does to what a customer's balance is made of.
-use Rattle.std.proofs.Common.{◌≡◌, ℕ, ◌+◌, ◌-◌, Bool, true, false, cond, not, eqb, leb, List, [], ◌∷◌, length, get_or, set, ℤ, pos, ◌+ℤ◌, ◌-ℤ◌, neg_ℤ, is_some, Some, None, Option, unwrap_or, sym, refl, ap, ◌∙◌, inl, inr, arith}
+use Rattle.std.proofs.Common.{◌≡◌, ℕ, ◌-◌, Bool, true, false, cond, eqb, leb, List, [], ◌∷◌, length, get_or, set, ℤ, pos, ◌+ℤ◌, ◌-ℤ◌, neg_ℤ, is_some, Some, None, Option, unwrap_or, sym, refl, ap, ◌∙◌, inl, inr, arith}
 use lib.IntN.{+ℤ_idr}
 use Rattle.std.specs.Option.{option_to_list}
 use Rattle.std.specs.List.{AllByRecursion}
@@ -10,7 +10,7 @@ use Rattle.terms.specs.declared.call.Answer.{Answer}
 use Rattle.terms.specs.declared.call.Call.{Call}
 use Rattle.terms.specs.declared.call.Call.TheVariants as call
 use Rattle.book.proofs.Added.{linear}
-use Rattle.steps.specs.State.{State, Series, customers, all_series, no_customer, no_series, is_customer, is_broker, is_series, customer, series_at, position, ever_listed, enrolled}
+use Rattle.steps.specs.State.{State, Series, all_series, no_customer, no_series, is_customer, is_broker, is_series, customer, series_at, position, ever_listed}
 use Rattle.steps.specs.Deals.{Deal, deal_post, fees, gain, force_deal}
 use Rattle.steps.specs.Steps.{post, alone, moved, refusal, trade_deal, answer, covered, settled_at, ended_at}
 use Rattle.runs.specs.Money.{cash, deposited, withdrawn, received, over_deals, fee_of, gain_of}

@@ -1,5 +1,5 @@
 -- No position of a customer under notice grows or changes its side.
-use Rattle.std.proofs.Common.{◌≡◌, ℕ, zero, suc, ◌+◌, ◌-◌, ◌≤◌, min, Bool, true, false, cond, not, ◌&&◌, ◌||◌, eqb, ltb, leb, ◌⊎◌, List, [], ◌∷◌, ◌++◌, length, get_or, set, ℤ, pos, ◌+ℤ◌, neg_ℤ, nat_abs, is_some, Some, None, sym, refl, ap, subst, inl, inr, arith}
+use Rattle.std.proofs.Common.{◌≡◌, ℕ, zero, suc, ◌+◌, ◌-◌, ◌≤◌, min, Bool, true, false, cond, not, ◌&&◌, ◌||◌, eqb, ltb, leb, ◌⊎◌, [], ◌∷◌, ◌++◌, length, get_or, set, ℤ, pos, ◌+ℤ◌, neg_ℤ, nat_abs, is_some, Some, None, sym, refl, ap, subst, inl, inr, arith}
 use Rattle.std.specs.List.{AllByRecursion}
 use Rattle.std.proofs.lemmas.List.FromFn.{get_or-map-range_with_len}
 use Rattle.std.proofs.lemmas.List.{get_or-map}
@@ -9,7 +9,7 @@ use Rattle.terms.specs.declared.call.Call.TheVariants as call
 use Rattle.terms.specs.Ranges.{in_range}
 use Rattle.steps.specs.State.{State, Customer, customers, no_customer, is_customer, customer, position, series_at, under_notice}
 use Rattle.steps.specs.Deals.{Deal, deal_moves, with_positions, shifted, closes, is_long, enough, first_from, forced, force_deal, bought, sold}
-use Rattle.steps.specs.Refusals.{first, room_refusals, book_refuses, party, counterparty}
+use Rattle.steps.specs.Refusals.{room_refusals, book_refuses, party, counterparty}
 use Rattle.steps.specs.Steps.{noted, under_broker, newly_called, moved, posts, refusal, trade_deal}
 use Rattle.runs.specs.Notices.{Shrunk}
 use Rattle.runs.proofs.Flags.{set_either, seat}

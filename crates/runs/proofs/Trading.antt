@@ -11,7 +11,7 @@ use Rattle.steps.specs.State.{State, customers, all_series, no_customer, no_seri
 use Rattle.steps.specs.Deals.{Deal}
 use Rattle.steps.specs.Steps.{refusal, next, moved, answer}
 use Rattle.runs.specs.Runs.{Event, New, Run, new, more}
-use Rattle.runs.specs.Trading.{net, ended, deal_by, deals, longs, shorts, TradeLaw}
+use Rattle.runs.specs.Trading.{net, ended, deal_by, deals, TradeLaw}
 use Rattle.runs.proofs.Bought.{Sound, Explained, explained_moved, all_moved, trade_fits, force_fits}
 use Rattle.runs.proofs.Counts.{all_customers}
 use Rattle.runs.proofs.Flags.{seat, positions_lifted, wide_lifted}

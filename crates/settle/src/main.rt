@@ -5,16 +5,18 @@ use crate::report::{answer_line, refusal_line};
 use anyhow::anyhow;
 use price::settlement_price;
 use std::io::Read;
+use std::process::ExitCode;
 use tape::read_day;
 
 mod report;
 
-fn main(rt: HostRuntime) -> anyhow::Result<()> {
+// Prints the one message itself: an `Err` from `main` would be printed once more.
+fn main(rt: HostRuntime) -> ExitCode {
     match run(&rt) {
-        Ok(()) => Ok(()),
+        Ok(()) => ExitCode::SUCCESS,
         Err(error) => {
-            eprintln!(rt; "settle: {error}")?;
-            Err(error)
+            let _ = eprintln!(rt; "settle: {error}");
+            ExitCode::FAILURE
         }
     }
 }

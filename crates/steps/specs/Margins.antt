@@ -1,7 +1,7 @@
 -- The margins of a customer: the sums over its positions.
 use Rattle.std.specs.Prelude.{ℕ, zero, suc, ◌+◌, Bool, cond, List, ℤ, pos, ◌==◌, int_le, int_lt, slice_index_or, unsigned_abs}
 use Rattle.margin.specs.Question.{Answers}
-use Rattle.steps.specs.State.{State, Series, Customer, no_series, all_series, customer, balance}
+use Rattle.steps.specs.State.{State, Series, no_series, all_series, customer, balance}
 
 abbrev pub both : ℕ × ℕ → ℕ × ℕ → ℕ × ℕ
 both a b = (a.0 + b.0, a.1 + b.1)

@@ -1,5 +1,5 @@
 -- The two questions, which change nothing.
-use Rattle.std.specs.Prelude.{ℕ, Bool, cond, List, [], ◌∷◌, ℤ, pos, ◌-ℤ◌, Some, None, Ok, Err, Option, Result}
+use Rattle.std.specs.Prelude.{ℕ, cond, [], ◌∷◌, ℤ, pos, ◌-ℤ◌, Some, None, Ok, Err, Option, Result}
 use Rattle.terms.specs.declared.fault.Fault.{Fault}
 use Rattle.steps.specs.declared.Standing.{Standing}
 use Rattle.steps.specs.State.{State, balance, position, under_notice}

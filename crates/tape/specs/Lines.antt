@@ -1,8 +1,7 @@
 -- What a line says.
-use Rattle.std.specs.Prelude.{ℕ, Bool, cond, List, [], ◌∷◌, Some, None, Ok, Err, Option, Result, ◌==◌}
+use Rattle.std.specs.Prelude.{ℕ, cond, List, [], ◌∷◌, Some, None, Ok, Err, Option, Result, ◌==◌}
 use Rattle.std.specs.Option.{option_map, ok_or}
 use Rattle.std.specs.Str.{bytes_eq}
-use Rattle.price.specs.declared.day.Band.{Band}
 use Rattle.price.specs.declared.day.Trade.{Trade}
 use Rattle.tape.specs.declared.item.Keyword.{Keyword}
 use Rattle.tape.specs.declared.item.Keyword.TheVariants as keyword

@@ -1,4 +1,4 @@
-use Rattle.std.proofs.Common.{◌≡◌, get_or, Some, sym, ap, ◌∙◌, subst}
+use Rattle.std.proofs.Common.{get_or, Some, sym, ap, ◌∙◌, subst}
 use Rattle.std.specs.Option.{option_map}
 use Rattle.std.proofs.lemmas.List.{at_drop_all, take_all}
 use Rattle.terms.specs.declared.fault.Fault.TheVariants.{PriceInput}

@@ -1,5 +1,4 @@
-use Rattle.std.proofs.Common.{◌≡◌, ◌*◌, ◌≤◌, sym, arith}
-use Rattle.margin.specs.Laws.{most}
+use Rattle.std.proofs.Common.{◌*◌, sym, arith}
 use Rattle.margin.specs.Kept.{ranges_of, value_high, portion_below}
 use Rattle.margin.proofs.share.ShareMarginRule.margins.Goals as goal
 

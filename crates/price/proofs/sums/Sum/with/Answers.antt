@@ -1,4 +1,4 @@
-use Rattle.std.proofs.Common.{◌≤◌, arith}
+use Rattle.std.proofs.Common.{arith}
 use Rattle.price.proofs.Means.{weighed}
 use Rattle.price.proofs.sums.Sum.with.Goals as goal
 
