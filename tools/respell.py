@@ -14,7 +14,9 @@ import sys
 
 # bound in a signature or a pattern, and declared nowhere
 LOCAL = """all-fees all-gains fault-number fault-place first-is fitting-numbers from-buyer from-seller lines-each next-is
-no-in no-out not-buyer not-seller same-fees same-gains to-ask to-bid to-committee to-count to-house""".split()
+no-in no-out not-buyer not-seller same-fees same-gains to-ask to-bid to-committee to-count to-house by-letter by-words
+in-full portion-of standing-of counterparty-refusals closed-by customer-in margins-in lacks-margin suffices-for
+fees-of""".split()
 
 # two operators, joined as the library joins them
 KEPT = {"*ℤ-+ℤ", "+ℤ-*ℤ", "neg-*ℤ"}

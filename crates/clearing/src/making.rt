@@ -3,7 +3,7 @@ ghost use Rattle.std.specs.Prelude.{◌≡◌, false, [], is_ok};
 ghost use Rattle.desk.specs.Moves.{Moves};
 ghost use Rattle.desk.specs.Views.{state};
 ghost use Rattle.runs.specs.Runs.{Run};
-ghost use Rattle.steps.specs.Questions.{standing as standing-of, position_of};
+ghost use Rattle.steps.specs.Questions.{standing as standing_of, position_of};
 ghost use Rattle.clearing.specs.Made.{Made, state_of};
 
 use crate::room::Room;
@@ -83,7 +83,7 @@ impl<'b, 'r, const N: u64, B: Book<N>, R: MarginRule> Room<'b, 'r, N, B, R> {
 
     /// A customer's balance, both margins, and what it owes if it is under notice.
     pub fn standing(&self, customer: u32) -> Result<Standing, Fault>
-        ensures { result ≡ standing-of (state_of B.Book R.MarginRule self.now) customer }
+        ensures { result ≡ standing_of (state_of B.Book R.MarginRule self.now) customer }
     {
         self.desk.standing(customer)
     }

@@ -3,8 +3,8 @@ ghost use Rattle.std.specs.Prelude.{◌≡◌, ◌≤◌, false, is_ok, unsigned
 ghost use Rattle.terms.specs.declared.call.Call.TheVariants.{Force};
 ghost use Rattle.steps.specs.State.{position};
 ghost use Rattle.steps.specs.Deals.{forced, force_deal, is_long};
-ghost use Rattle.steps.specs.Refusals.{room_refusals, counterparty as counterparty-refusals};
-ghost use Rattle.exposure.specs.Forced.{closed as closed-by};
+ghost use Rattle.steps.specs.Refusals.{room_refusals, counterparty as counterparty_refusals};
+ghost use Rattle.exposure.specs.Forced.{closed as closed_by};
 ghost use Rattle.desk.specs.Bargains.{Agreed, closing_of, unforced};
 ghost use Rattle.desk.specs.Moves.{Granted, Moves};
 ghost use Rattle.desk.specs.Views.{state};
@@ -29,7 +29,7 @@ fn is_long(held: Position) -> bool
 // What is left of a position once so many contracts of it are closed.
 fn closed(held: Position, count: Count) -> Position
     requires { count.value ≤ unsigned_abs held.contracts }
-    ensures { result.contracts ≡ closed-by held.contracts count.value }
+    ensures { result.contracts ≡ closed_by held.contracts count.value }
 {
     let count = count.get() as i64;
     if is_long(held) {
@@ -82,7 +82,7 @@ impl<'b, 'r, const N: u64, B: Book<N>, R: MarginRule> Desk<'b, 'r, N, B, R> {
     fn check_closing(&self, terms: &Terms, held: Position, count: Count) -> Result<Bargain, Fault>
         requires held { held.contracts ≡ position (state B.Book R.MarginRule self.now) terms.now.one.value terms.now.series.value }
         requires count { count.value ≤ unsigned_abs held.contracts }
-        ensures { Agreed (state B.Book R.MarginRule self.now) (closing_of (state B.Book R.MarginRule self.now) terms.now count.value) (counterparty-refusals (state B.Book R.MarginRule self.now) terms.now.other.value terms.now.series.value (closing_of (state B.Book R.MarginRule self.now) terms.now count.value)) result }
+        ensures { Agreed (state B.Book R.MarginRule self.now) (closing_of (state B.Book R.MarginRule self.now) terms.now count.value) (counterparty_refusals (state B.Book R.MarginRule self.now) terms.now.other.value terms.now.series.value (closing_of (state B.Book R.MarginRule self.now) terms.now count.value)) result }
     {
         let (one, other) = (terms.one, terms.other);
         let (series, price) = (terms.series, terms.price);

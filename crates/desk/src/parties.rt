@@ -1,8 +1,8 @@
 //! The tests of a party of a deal.
 ghost use Rattle.std.specs.Prelude.{◌≡◌, ◌-◌, not, ◌&&◌, pos, ◌+ℤ◌, neg_ℤ, nat_lt, slice_set, unsigned_abs};
 ghost use Rattle.terms.specs.declared.fault.Fault.TheVariants.{UnderNotice, PastLimit, BelowMargin};
-ghost use Rattle.steps.specs.State.{customer as customer-in, series_at, position, balance, under_notice};
-ghost use Rattle.steps.specs.Margins.{margins as margins-in, lacks as lacks-margin};
+ghost use Rattle.steps.specs.State.{customer as customer_in, series_at, position, balance, under_notice};
+ghost use Rattle.steps.specs.Margins.{margins as margins_in, lacks as lacks_margin};
 ghost use Rattle.steps.specs.Deals.{closes as closes_by, bought, sold};
 ghost use Rattle.steps.specs.Refusals.{first, refuse, party};
 ghost use Rattle.desk.specs.Moves.{Granted};
@@ -61,7 +61,7 @@ impl<'b, 'r, const N: u64, B: Book<N>, R: MarginRule> Desk<'b, 'r, N, B, R> {
         amount: i64,
         closing: bool,
     ) -> Result<(), Fault>
-        ensures { Granted result (refuse (not closing && lacks-margin (balance (state B.Book R.MarginRule self.now) customer.value +ℤ amount) (margins-in (state B.Book R.MarginRule self.now) (slice_set (customer-in (state B.Book R.MarginRule self.now) customer.value).positions (series.value - 1) after.contracts)).0) (BelowMargin customer.value)) (λ _. Unit {0}) }
+        ensures { Granted result (refuse (not closing && lacks_margin (balance (state B.Book R.MarginRule self.now) customer.value +ℤ amount) (margins_in (state B.Book R.MarginRule self.now) (slice_set (customer_in (state B.Book R.MarginRule self.now) customer.value).positions (series.value - 1) after.contracts)).0) (BelowMargin customer.value)) (λ _. Unit {0}) }
     {
         if closing {
             return Ok(());

@@ -1,7 +1,7 @@
 //! A new desk, and the questions that change nothing.
 ghost use Rattle.std.specs.Prelude.{◌≡◌};
 ghost use Rattle.steps.specs.State.{new_room};
-ghost use Rattle.steps.specs.Questions.{standing as standing-of, position_of};
+ghost use Rattle.steps.specs.Questions.{standing as standing_of, position_of};
 ghost use Rattle.desk.specs.Views.{state};
 
 use crate::desk::Desk;
@@ -32,7 +32,7 @@ impl<'b, 'r, const N: u64, B: Book<N>, R: MarginRule> Desk<'b, 'r, N, B, R> {
 
     /// A customer's balance, both margins, and what it owes if it is under notice.
     pub fn standing(&self, customer: u32) -> Result<Standing, Fault>
-        ensures { result ≡ standing-of (state B.Book R.MarginRule self.now) customer }
+        ensures { result ≡ standing_of (state B.Book R.MarginRule self.now) customer }
     {
         let number = customer_number(customer)?;
         self.knows(number)?;

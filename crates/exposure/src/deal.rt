@@ -1,7 +1,7 @@
 //! What a deal and a mark post.
 ghost use Rattle.std.specs.Prelude.{◌≡◌, ◌≤◌, pos, ◌+ℤ◌, ◌-ℤ◌, ◌*ℤ◌, neg_ℤ, unsigned_abs};
-ghost use Rattle.steps.specs.Margins.{lacks as lacks-margin};
-ghost use Rattle.steps.specs.Deals.{gain as gain_of, fees as fees-of, bought, sold, closes as closes_by};
+ghost use Rattle.steps.specs.Margins.{lacks as lacks_margin};
+ghost use Rattle.steps.specs.Deals.{gain as gain_of, fees as fees_of, bought, sold, closes as closes_by};
 ghost use Rattle.tables.specs.Views.{series_of};
 
 use tables::position::Position;
@@ -54,7 +54,7 @@ fn gain(series: &Series, count: Count, price: Price) -> i64
 
 // What each party pays the house.
 fn fees(series: &Series, count: Count) -> i64
-    ensures value { result ≡ fees-of (series_of series.now) count.value }
+    ensures value { result ≡ fees_of (series_of series.now) count.value }
     ensures small { unsigned_abs result ≤ 1000000000 }
 {
     (series.fee.get() * count.get()) as i64
@@ -64,7 +64,7 @@ fn fees(series: &Series, count: Count) -> i64
 pub fn deal(series: &Series, count: Count, price: Price) -> Shares
     ensures buyer { result.buyer ≡ bought (series_of series.now) count.value price.value }
     ensures seller { result.seller ≡ sold (series_of series.now) count.value price.value }
-    ensures house { result.house ≡ fees-of (series_of series.now) count.value +ℤ fees-of (series_of series.now) count.value }
+    ensures house { result.house ≡ fees_of (series_of series.now) count.value +ℤ fees_of (series_of series.now) count.value }
 {
     Shares::of(gain(series, count, price), fees(series, count))
 }
@@ -87,7 +87,7 @@ pub fn revalued(position: Position, series: &Series, price: Price) -> i64
 
 /// Whether a balance is below a margin once an amount is posted.
 pub fn lacks(balance: i64, amount: i64, margin: u64) -> bool
-    ensures { result ≡ lacks-margin (balance +ℤ amount) margin }
+    ensures { result ≡ lacks_margin (balance +ℤ amount) margin }
 {
     // Wide enough for any sum.
     balance as i128 + (amount as i128) < margin as i128

@@ -2,7 +2,7 @@
 ghost use Rattle.std.specs.Prelude.{◌≡◌, ◌-◌, ◌≤◌, min, pos, slice_index_or, unsigned_abs};
 ghost use Rattle.steps.specs.Deals.{least};
 ghost use Rattle.tables.specs.Views.{series_of, all_series_of};
-ghost use Rattle.exposure.specs.Forced.{posted, suffices as suffices-for, suffices_beside};
+ghost use Rattle.exposure.specs.Forced.{posted, suffices as suffices_for, suffices_beside};
 
 use crate::deal::{deal, lacks};
 use crate::margins::{margins, part_of};
@@ -67,7 +67,7 @@ pub fn least_count<R: MarginRule>(
     offer: Count,
     price: Price,
 ) -> Count
-    ensures { result.value ≡ least (suffices-for (R.MarginRule.asked rule.now) (all_series_of table.now) positions.now.held series.value balance price.value) (min offer.value (unsigned_abs (slice_index_or positions.now.held (series.value - 1) (pos 0)))) }
+    ensures { result.value ≡ least (suffices_for (R.MarginRule.asked rule.now) (all_series_of table.now) positions.now.held series.value balance price.value) (min offer.value (unsigned_abs (slice_index_or positions.now.held (series.value - 1) (pos 0)))) }
 {
     let held = positions.get(series);
     let mut rest = *positions;

@@ -2,7 +2,7 @@
 ghost use Rattle.std.specs.Prelude.{◌≡◌, ◌≤◌, false, ◌&&◌, is_ok, if◌then◌else◌};
 ghost use Rattle.margin.specs.Question.{within};
 ghost use Rattle.margin.specs.Laws.{most};
-ghost use Rattle.margin.specs.Rules.{portion as portion-of, share_rule};
+ghost use Rattle.margin.specs.Rules.{portion as portion_of, share_rule};
 ghost use Rattle.margin.specs.Settings.{numbers_of, setting};
 ghost use Rattle.margin.specs.Kept.{share_lawful};
 
@@ -46,7 +46,7 @@ impl Share {
 // So many ten-thousandths of an amount, rounded up.
 fn portion(amount: u64, parts: Parts) -> u64
     requires { amount ≤ most }
-    ensures { result ≡ portion-of amount parts.value }
+    ensures { result ≡ portion_of amount parts.value }
 {
     let exact = amount * parts.get();
     exact.div_ceil(10_000)

@@ -32,8 +32,8 @@ abbrev pub Agreed : State → Deal → Type 0
 Agreed s d = Stands s d.buyer d.series (pos d.count) × Stands s d.seller d.series (neg_ℤ (pos d.count))
 
 module _ (s : State) where
-  so_closes : (p i : ℕ) (by : ℤ) → Stands s p i by → under_notice s p ≡ true → closes (position s p i) by ≡ true
-  so_closes p i by h under = elim h [ inl e ↦ e | inr e ↦ absurd (both_ways (under_notice s p) e.0 under) ]
+  stands_close : (p i : ℕ) (by : ℤ) → Stands s p i by → under_notice s p ≡ true → closes (position s p i) by ≡ true
+  stands_close p i by h under = elim h [ inl e ↦ e | inr e ↦ absurd (both_ways (under_notice s p) e.0 under) ]
 
   -- one position of a customer moved, seen at any series
   moved_one : (p series : ℕ) (by : ℤ) (i : ℕ) → Shrunk (position s p series) (position s p series +ℤ by) → Shrunk (position s p i) (get_or (shifted s p series by) (i - 1) (pos 0))
@@ -52,23 +52,26 @@ module _ (s : State) where
   under_place : (n p : ℕ) → n - 1 ≡ p - 1 → under_notice s n ≡ true → under_notice s p ≡ true
   under_place n p e h = subst (λ k. (get_or s.customers k no_customer).notice ≡ true) e h
 
-  deal_shrinks : (d : Deal) → Agreed s d → (n i : ℕ) → under_notice s n ≡ true → Shrunk (position s n i) (held (get_or (deal_moves s d) (n - 1) no_customer) i)
-  deal_shrinks d agreed n i under =
+  deal_shrinks : (d : Deal) → (under_notice s d.buyer ≡ true → closes (position s d.buyer d.series) (pos d.count) ≡ true) → (under_notice s d.seller ≡ true → closes (position s d.seller d.series) (neg_ℤ (pos d.count)) ≡ true) → (n i : ℕ) → under_notice s n ≡ true → Shrunk (position s n i) (held (get_or (deal_moves s d) (n - 1) no_customer) i)
+  deal_shrinks d buyer_closes seller_closes n i under =
       let buyer = with_positions (customer s d.buyer) (shifted s d.buyer d.series (pos d.count)) in
       let seller = with_positions (customer s d.seller) (shifted s d.seller d.series (neg_ℤ (pos d.count))) in
       elim (set_either (set s.customers (d.buyer - 1) buyer) (d.seller - 1) (n - 1) seller no_customer) [
         | inr e ↦
             subst (λ c. Shrunk (position s n i) (held c i)) (sym e.1)
-            (at_place n d.seller i _ e.0 (moved_one d.seller d.series (neg_ℤ (pos d.count)) i (closing_shrinks _ _ (so_closes d.seller d.series _ agreed.1 (under_place n d.seller e.0 under)))))
+            (at_place n d.seller i _ e.0 (moved_one d.seller d.series (neg_ℤ (pos d.count)) i (closing_shrinks _ _ (seller_closes (under_place n d.seller e.0 under)))))
         | inl e ↦
             subst (λ c. Shrunk (position s n i) (held c i)) (sym e)
             (elim (set_either s.customers (d.buyer - 1) (n - 1) buyer no_customer) [
               | inr f ↦
                   subst (λ c. Shrunk (position s n i) (held c i)) (sym f.1)
-                  (at_place n d.buyer i _ f.0 (moved_one d.buyer d.series (pos d.count) i (closing_shrinks _ _ (so_closes d.buyer d.series _ agreed.0 (under_place n d.buyer f.0 under)))))
+                  (at_place n d.buyer i _ f.0 (moved_one d.buyer d.series (pos d.count) i (closing_shrinks _ _ (buyer_closes (under_place n d.buyer f.0 under)))))
               | inl f ↦ subst (λ c. Shrunk (position s n i) (held c i)) (sym f) (unmoved (position s n i))
             ])
       ]
+
+  agreed_shrinks : (d : Deal) → Agreed s d → (n i : ℕ) → under_notice s n ≡ true → Shrunk (position s n i) (held (get_or (deal_moves s d) (n - 1) no_customer) i)
+  agreed_shrinks d agreed = deal_shrinks d (stands_close d.buyer d.series _ agreed.0) (stands_close d.seller d.series _ agreed.1)
 
   enrol_keeps : (c b n i : ℕ) → Shrunk (position s n i) (held (get_or (set s.customers (c - 1) (under_broker (customer s c) b)) (n - 1) no_customer) i)
   enrol_keeps c b n i =
@@ -82,6 +85,9 @@ module _ (s : State) where
       let of_buyer = (passed s (call.Trade b o i m q) accepted).1.1.1.1.1.1.1.1.1 in
       let of_seller = of_buyer.1.1.1 in
       (closes_or _ _ _ _ _ of_buyer.0 of_buyer.1.0, closes_or _ _ _ _ _ of_seller.0 of_seller.1.0)
+
+  trade_shrinks : (b o i m q : ℕ) → refusal s (call.Trade b o i m q) ≡ None → (n j : ℕ) → under_notice s n ≡ true → Shrunk (position s n j) (position (moved s (call.Trade b o i m q)) n j)
+  trade_shrinks b o i m q accepted = agreed_shrinks (trade_deal b o i m q) (trade_agreed b o i m q accepted)
 
 -- the count that force takes is at most the position
 pub first_within : (p : ℕ → Bool) (k more : ℕ) → first_from p k more ≤ k + more
@@ -150,6 +156,9 @@ module _ (s : State) (c o i offer q : ℕ) (accepted : refusal s (call.Force c o
             subst (Agreed s) (sym is) (inl (buys (position s c i) count short within), closes_or _ _ _ _ _ other.0 other.1.0)
       ]
 
+  pub force_shrinks : (n j : ℕ) → under_notice s n ≡ true → Shrunk (position s n j) (position (moved s (call.Force c o i offer q)) n j)
+  force_shrinks = agreed_shrinks s (force_deal s c o i offer q) force_agreed
+
 -- a position that is set to nought
 final_shrinks : (c : Customer) (i j : ℕ) → Shrunk (held c j) (get_or (set c.positions (i - 1) (pos 0)) (j - 1) (pos 0))
 final_shrinks c i j =
@@ -164,7 +173,7 @@ shrinks_moved s (call.Enrol c b) wide accepted n j is under = enrol_keeps s c b 
 shrinks_moved s (call.List size limit i price fee) wide accepted n j is under = unmoved (position s n j)
 shrinks_moved s (call.Deposit k a) wide accepted n j is under = unmoved (position s n j)
 shrinks_moved s (call.Withdraw k a) wide accepted n j is under = unmoved (position s n j)
-shrinks_moved s (call.Trade b o i m q) wide accepted n j is under = deal_shrinks s (trade_deal b o i m q) (trade_agreed s b o i m q accepted) n j under
+shrinks_moved s (call.Trade b o i m q) wide accepted n j is under = trade_shrinks s b o i m q accepted n j under
 shrinks_moved s call.Late wide accepted n j is under = unmoved (position s n j)
 shrinks_moved s call.Shut wide accepted n j is under = unmoved (position s n j)
 shrinks_moved s (call.Mark i q) wide accepted n j is under = unmoved (position s n j)
@@ -172,7 +181,7 @@ shrinks_moved s (call.Final i q) wide accepted n j is under =
     subst (λ c. Shrunk (position s n j) (held c j))
     (sym (get_or-map (λ c. with_positions c (set c.positions (i - 1) (pos 0))) s.customers (n - 1) no_customer no_customer (omega (arith, seat n is, wide))))
     (final_shrinks (customer s n) i j)
-shrinks_moved s (call.Force c o i offer q) wide accepted n j is under = deal_shrinks s (force_deal s c o i offer q) (force_agreed s c o i offer q accepted) n j under
+shrinks_moved s (call.Force c o i offer q) wide accepted n j is under = force_shrinks s c o i offer q accepted n j under
 shrinks_moved s (call.Cover c) wide accepted n j is under = unmoved (position s n j)
 shrinks_moved s call.Notices wide accepted n j is under =
     subst (λ c. Shrunk (position s n j) (held c j))

