@@ -1,5 +1,5 @@
 -- Balances within bounds.
-use Rattle.std.proofs.Common.{◌≡◌, ℕ, zero, suc, true, List, [], ◌∷◌, get_or, set, replicate, ℤ, pos, ◌+ℤ◌, is_some, Some, refl, arith}
+use Rattle.std.proofs.Common.{◌≡◌, ℕ, zero, suc, true, List, get_or, replicate, ℤ, pos, ◌+ℤ◌, is_some, refl, arith}
 use Rattle.book.specs.Balances.{in_bounds, new_balance}
 
 -- each balance of a list is within bounds
@@ -10,16 +10,6 @@ pub replicate_bounded : (n : ℕ) (z : ℤ) → in_bounds z ≡ true → Bounded
 replicate_bounded zero z h k = refl
 replicate_bounded (suc n) z h zero = h
 replicate_bounded (suc n) z h (suc k) = replicate_bounded n z h k
-
-pub set_bounded : (xs : List ℤ) (i : ℕ) (z : ℤ) → Bounded xs → in_bounds z ≡ true → Bounded (set xs i z)
-set_bounded [] i z s h k = s k
-set_bounded (x ∷ xs) zero z s h zero = h
-set_bounded (x ∷ xs) zero z s h (suc k) = s (suc k)
-set_bounded (x ∷ xs) (suc i) z s h zero = s zero
-set_bounded (x ∷ xs) (suc i) z s h (suc k) = set_bounded xs i z (λ j. s (suc j)) h k
-
-pub new_balance_inside : (b a z : ℤ) → Some z ≡ new_balance b a → in_bounds z ≡ true
-new_balance_inside b a z e = grind arith
 
 pub new_balance_some : (b a : ℤ) → is_some (new_balance b a) ≡ in_bounds (b +ℤ a)
 new_balance_some b a = grind arith

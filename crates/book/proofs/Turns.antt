@@ -1,6 +1,7 @@
 -- One turn of each loop over the accounts.
-use Rattle.std.proofs.Common.{◌≡◌, ℕ, zero, suc, ◌+◌, ◌-◌, ◌*◌, ◌<◌, ◌≤◌, true, false, cond, eqb, List, [], ◌∷◌, length, get_or, take, drop, set, ℤ, pos, negsuc, ◌+ℤ◌, nat_abs, is_some, Some, None, Ok, Option, sym, ap, ◌∙◌, zero-le, mul-le-mul_left, mul-one, mul-add, add-one, arith, w64, SFits, of_z}
+use Rattle.std.proofs.Common.{◌≡◌, ℕ, suc, ◌+◌, ◌-◌, ◌*◌, ◌<◌, ◌≤◌, Bool, true, false, cond, eqb, List, length, get_or, take, drop, set, ℤ, pos, negsuc, ◌+ℤ◌, nat_abs, is_some, Some, None, Ok, Option, sym, refl, ap, not, ◌∙◌, mul-le-mul_left, mul-one, mul-add, add-one, arith, w64, SFits, of_z}
 use Rattle.std.proofs.lemmas.List.{drop_more, set-get_or}
+use Rattle.std.proofs.lemmas.List.Sums.{sum_by_more, sum_by-take-le}
 use Rattle.std.proofs.lemmas.Int.{ints}
 use Rattle.std.proofs.lemmas.Bool.{ne_eqb, cond-true, cond-false, le-ltb, and_from}
 use Rattle.book.specs.Balances.{in_bounds, new_balance, of_account}
@@ -40,15 +41,14 @@ module _ (bs ms : List ℤ) (i : ℕ) (b : ℤ) (o : Option ℤ) (long : length 
 
 -- ---- the count
 
-postings_more : (ms : List ℤ) (i : ℕ) → i < length ms → postings (take (suc i) ms) ≡ postings (take i ms) + cond (eqb (nat_abs (get_or ms i (pos 0))) 0) 0 1
-postings_more [] i h = absurd (omega arith)
-postings_more (a ∷ ms) zero h = grind arith
-postings_more (a ∷ ms) (suc i) h = let more = postings_more ms i (omega arith) in grind arith
+turned : (b : Bool) → ◌≡◌ {A = ℕ} (cond (not b) 1 0) (cond b 0 1)
+turned true = refl
+turned false = refl
 
-postings_front : (ms : List ℤ) (i : ℕ) → postings (take i ms) ≤ postings ms
-postings_front ms zero = zero-le
-postings_front [] (suc i) = zero-le
-postings_front (a ∷ ms) (suc i) = let less = postings_front ms i in grind arith
+postings_more : (ms : List ℤ) (i : ℕ) → i < length ms → postings (take (i + 1) ms) ≡ postings (take i ms) + cond (eqb (nat_abs (get_or ms i (pos 0))) 0) 0 1
+postings_more ms i h =
+    sum_by_more (λ a. cond (not (eqb (nat_abs a) 0)) 1 0) ms i (pos 0) h
+    ∙ ap (λ n. postings (take i ms) + n) (turned (eqb (nat_abs (get_or ms i (pos 0))) 0))
 
 -- ---- the posting: the first i amounts are added to what the book held, and their lines taken
 
@@ -61,7 +61,7 @@ module _ (bs₀ ms : List ℤ) (left₀ cost : ℕ) (long : length ms ≡ 64) (i
   pub passed : (bs : List ℤ) (left : ℕ) → Made bs₀ left₀ cost ms i bs left → get_or ms i (pos 0) ≡ pos 0 → Made bs₀ left₀ cost ms (i + 1) bs left
   passed bs left m z =
       let within : i < length ms = omega arith in
-      let count : postings (take (i + 1) ms) ≡ postings (take i ms) = ap (λ k. postings (take k ms)) (add-one i) ∙ postings_more ms i within ∙ ap (λ a. postings (take i ms) + cond (eqb (nat_abs a) 0) 0 1) z ∙ omega arith in
+      let count : postings (take (i + 1) ms) ≡ postings (take i ms) = postings_more ms i within ∙ ap (λ a. postings (take i ms) + cond (eqb (nat_abs a) 0) 0 1) z ∙ omega arith in
       let plus : get_or bs₀ i (pos 0) +ℤ get_or ms i (pos 0) ≡ get_or bs₀ i (pos 0) = ap (λ a. get_or bs₀ i (pos 0) +ℤ a) z ∙ omega (arith, ints) in
       let same : added bs₀ (take (i + 1) ms) ≡ added bs₀ (take i ms) = ap (λ k. added bs₀ (take k ms)) (add-one i) ∙ added_more bs₀ ms i within ∙ ap (set (added bs₀ (take i ms)) i) (plus ∙ sym (get_or_added_front bs₀ ms i)) ∙ set-get_or (added bs₀ (take i ms)) i (pos 0) in
       record { added_so_far = m.added_so_far ∙ sym same; taken_so_far = ap (λ k. left + cost * k) count ∙ m.taken_so_far }
@@ -73,14 +73,14 @@ module _ (bs₀ ms : List ℤ) (left₀ cost : ℕ) (long : length ms ≡ 64) (i
     lines_more : cost * postings (take (i + 1) ms) ≡ cost * postings (take i ms) + cost
     lines_more =
         let p = postings (take i ms) in
-        let count : postings (take (i + 1) ms) ≡ p + 1 = ap (λ k. postings (take k ms)) (add-one i) ∙ postings_more ms i (omega arith) ∙ ap (λ b. p + cond b 0 1) due in
+        let count : postings (take (i + 1) ms) ≡ p + 1 = postings_more ms i (omega arith) ∙ ap (λ b. p + cond b 0 1) due in
         ap (λ k. cost * k) count ∙ mul-add cost p 1 ∙ ap (λ k. cost * p + k) (mul-one cost)
 
     enough : cost ≤ left
     enough =
         let more = lines_more in
         let taken = m.taken_so_far in
-        let most : cost * postings (take (i + 1) ms) ≤ cost * postings ms = mul-le-mul_left cost (postings_front ms (i + 1)) in
+        let most : cost * postings (take (i + 1) ms) ≤ cost * postings ms = mul-le-mul_left cost (sum_by-take-le (λ a. cond (not (eqb (nat_abs a) 0)) 1 0) ms (i + 1)) in
         omega arith
 
     -- a posting that was tested is never refused

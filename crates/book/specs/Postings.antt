@@ -1,5 +1,5 @@
 -- One posting, and many of which all are made or none.
-use Rattle.std.specs.Prelude.{ℕ, suc, ◌+◌, ◌-◌, ◌*◌, cond, ◌&&◌, List, [], ◌∷◌, ℤ, pos, ◌+ℤ◌, Some, None, Ok, Err, Option, Result, ◌==◌, nat_lt, slice_index_or, slice_set, unsigned_abs}
+use Rattle.std.specs.Prelude.{ℕ, ◌+◌, ◌-◌, ◌*◌, cond, ◌&&◌, List, [], ◌∷◌, ℤ, pos, ◌+ℤ◌, Some, None, Ok, Err, Option, Result, ◌==◌, not, count_by, nat_lt, slice_index_or, slice_set, unsigned_abs}
 use Rattle.terms.specs.declared.fault.Fault.{Fault}
 use Rattle.terms.specs.declared.fault.Fault.TheVariants.{OutOfBounds, NoLines}
 use Rattle.book.specs.Balances.{in_bounds, is_account, of_account}
@@ -20,8 +20,7 @@ added (b ∷ bs) (a ∷ ms) = (b +ℤ a) ∷ added bs ms
 
 -- how many amounts are not 0
 abbrev pub postings : List ℤ → ℕ
-postings [] = 0
-postings (a ∷ ms) = cond (unsigned_abs a == 0) (postings ms) (suc (postings ms))
+postings ms = count_by (λ a. not (unsigned_abs a == 0)) ms
 
 -- the lowest account, counted from n, whose balance would leave its bounds
 abbrev pub lowest_out : ℕ → List ℤ → List ℤ → Option ℕ

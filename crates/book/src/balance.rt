@@ -12,8 +12,7 @@ pub const LIMIT: i64 = 1_000_000_000_000_000_000;
 pub fn balance_after(balance: i64, amount: i64) -> Option<i64>
     ensures answer { result ≡ new_balance balance amount }
 {
-    match balance.checked_add(amount) {
-        Some(next) if -LIMIT <= next && next <= LIMIT => Some(next),
-        _ => None,
-    }
+    balance
+        .checked_add(amount)
+        .filter(|next| (-LIMIT..=LIMIT).contains(next))
 }

@@ -4,13 +4,15 @@ ghost use Rattle.book.specs.Balances.{of_account};
 ghost use Rattle.book.specs.Laws.{BookLaws};
 ghost use Rattle.book.specs.Postings.{post_answer, posted_to};
 
-use super::cost::Cost;
 use terms::fault::Fault;
 
-/// A book of a kind that takes `N` lines a posting.
-pub trait Book<const N: u64> {
+/// A book of any kind.
+pub trait Book {
     /// The lines that one posting takes, 0 or 1.
-    const COST: Cost<N>;
+    const COST: u64;
+
+    // The same in clauses.
+    ghost COST: { ℕ };
 
     /// The balances of accounts 1 to 64.
     ghost balances: { Self → List ℤ };
@@ -22,7 +24,7 @@ pub trait Book<const N: u64> {
     ghost kept: { Self → Self → Type 0 };
 
     /// What every kind must show.
-    ghost laws: { BookLaws balances N kept };
+    ghost laws: { BookLaws balances COST kept };
 
     /// The balance of an account; 0 for a number that is no account.
     fn balance(&self, account: u32) -> i64
@@ -34,9 +36,9 @@ pub trait Book<const N: u64> {
 
     /// Adds the amount to the account's balance, or refuses and changes nothing.
     fn post(&mut self, account: u32, amount: i64) -> Result<(), Fault>
-        ensures answer { result ≡ post_answer (balances self.old) (lines self.old) N account amount }
+        ensures answer { result ≡ post_answer (balances self.old) (lines self.old) COST account amount }
         ensures after { balances self.new ≡ (if is_ok result then posted_to (balances self.old) account amount else balances self.old) }
-        ensures spent { lines self.new ≡ (if is_ok result then lines self.old - N else lines self.old) }
+        ensures spent { lines self.new ≡ (if is_ok result then lines self.old - COST else lines self.old) }
         ensures place { kept self.old self.new }
         ensures whole { is_ok result ≡ false → self.new ≡ self.old };
 }

@@ -2,13 +2,11 @@
 #![tactic(auto)]
 
 mod balance;
-mod cost;
 mod kind;
 mod posting;
 mod table;
 
 pub use balance::{ACCOUNTS, LIMIT, balance_after};
-pub use cost::Cost;
 pub use kind::Book;
 pub use posting::{NetAmounts, post_all};
 pub use table::TableBook;

@@ -4,9 +4,9 @@ ghost use Rattle.std.proofs.Common.{zero-le};
 ghost use Rattle.book.specs.Balances.{in_bounds};
 
 use super::balance::{ACCOUNTS, balance_after};
-use super::cost::Cost;
 use super::kind::Book;
 use terms::fault::Fault;
+use terms::ranges::AccountNumber;
 
 /// A book that keeps one balance an account. Its postings take no line, and it never has one left.
 #[derive(Drop)]
@@ -27,8 +27,10 @@ impl TableBook {
     }
 }
 
-impl Book<0> for TableBook {
-    const COST: Cost<0> = Cost { lines: 0 };
+impl Book for TableBook {
+    const COST: u64 = 0;
+
+    ghost COST = { 0 };
 
     ghost balances = { λ s. s.table };
 
@@ -39,10 +41,7 @@ impl Book<0> for TableBook {
     ghost laws = { record { accounts = λ s. s.accounts; bounded = λ s. s.bounded; cost = zero-le; stays = λ _. tt; joins = λ _ _ _ _ _. tt } };
 
     fn balance(&self, account: u32) -> i64 {
-        match account {
-            1..=ACCOUNTS => self.table[account as usize - 1],
-            _ => 0,
-        }
+        AccountNumber::new(u64::from(account)).map_or(0, |number| self.table[number.index()])
     }
 
     fn lines_left(&self) -> u64 {
@@ -50,14 +49,11 @@ impl Book<0> for TableBook {
     }
 
     fn post(&mut self, account: u32, amount: i64) -> Result<(), Fault> {
-        if account < 1 || account > ACCOUNTS {
-            return Err(Fault::OutOfBounds { account });
-        }
-        let at = account as usize - 1;
-        let Some(next) = balance_after(self.table[at], amount) else {
-            return Err(Fault::OutOfBounds { account });
-        };
-        self.table[at] = next;
+        let refusal = Fault::OutOfBounds { account };
+        let at = AccountNumber::new(u64::from(account))
+            .ok_or(refusal)?
+            .index();
+        self.table[at] = balance_after(self.table[at], amount).ok_or(refusal)?;
         Ok(())
     }
 }

@@ -8,7 +8,7 @@ use margin::rule::MarginRule;
 use terms::call::{Answer, Call};
 use terms::fault::Fault;
 
-impl<'b, 'r, const N: u64, B: Book<N>, R: MarginRule> Room<'b, 'r, N, B, R> {
+impl<'b, 'r, B: Book, R: MarginRule> Room<'b, 'r, B, R> {
     /// Opens the room, if every balance of the book is 0.
     pub fn begin(&mut self) -> Result<Answer, Fault>
         ensures { Made B.Book R.MarginRule self.old Begin result self.new }
@@ -23,6 +23,7 @@ impl<'b, 'r, const N: u64, B: Book<N>, R: MarginRule> Room<'b, 'r, N, B, R> {
         self.make(Call::Enrol { customer, broker })
     }
 
+    // Here and below the numbers come one by one, as they stand on a line: a struct would only be taken apart again.
     /// Opens a series, for the only time; its price stands.
     pub fn list(
         &mut self,

@@ -1,7 +1,6 @@
 //! How a call is made.
-ghost use Rattle.std.specs.Prelude.{◌≡◌, false, [], is_ok};
-ghost use Rattle.desk.specs.Moves.{Moves};
-ghost use Rattle.desk.specs.Views.{state};
+ghost use Rattle.std.specs.Prelude.{◌≡◌, []};
+ghost use Rattle.desk.specs.Served.{Served};
 ghost use Rattle.runs.specs.Runs.{Run};
 ghost use Rattle.steps.specs.Questions.{standing as standing_of, position_of};
 ghost use Rattle.clearing.specs.Made.{Made, state_of};
@@ -14,15 +13,13 @@ use steps::Standing;
 use terms::call::{Answer, Call};
 use terms::fault::Fault;
 
-// What a call does before anybody is lifted.
-fn carry_out<'b, 'r, const N: u64, B: Book<N>, R: MarginRule>(
-    desk: &mut Desk<'b, 'r, N, B, R>,
+// What a call does before anybody is lifted. An arm a call: it comes in as a value, and closures for the thirteen would only be
+// picked by the same match.
+fn carry_out<'b, 'r, B: Book, R: MarginRule>(
+    desk: &mut Desk<'b, 'r, B, R>,
     call: Call,
 ) -> Result<u64, Fault>
-    ensures moves { Moves (state B.Book R.MarginRule desk.old) call result (state B.Book R.MarginRule desk.new) }
-    ensures lent { desk.new.book.ghost_name ≡ desk.old.book.ghost_name }
-    ensures place { B.Book.kept desk.old.book.now desk.new.book.now }
-    ensures same { is_ok result ≡ false → desk.new ≡ desk.old }
+    ensures { Served B.Book R.MarginRule desk.old call result desk.new }
 {
     match call {
         Call::Begin => desk.begin(),
@@ -59,9 +56,9 @@ fn carry_out<'b, 'r, const N: u64, B: Book<N>, R: MarginRule>(
     }
 }
 
-impl<'b, 'r, const N: u64, B: Book<N>, R: MarginRule> Room<'b, 'r, N, B, R> {
+impl<'b, 'r, B: Book, R: MarginRule> Room<'b, 'r, B, R> {
     /// A room that no call was made on, over whatever book and rule.
-    pub fn new(book: &'b mut B, rule: &'r R) -> Room<'b, 'r, N, B, R>
+    pub fn new(book: &'b mut B, rule: &'r R) -> Room<'b, 'r, B, R>
         ensures run { Run [] (state_of B.Book R.MarginRule result) }
         ensures book { result.desk.book.now ≡ book.old }
         ensures lent { result.desk.book.ghost_name ≡ book.entry.ghost_name }

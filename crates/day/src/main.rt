@@ -2,7 +2,6 @@
 //! 0 and a margin of 5,000 rials a contract, 3,500 at least, in every series.
 #![tactic(auto)]
 
-use anyhow::anyhow;
 use book::TableBook;
 use clearing::Room;
 use day_sheet::clear_sheet;
@@ -12,17 +11,14 @@ use sheet::cuts::LONGEST;
 use std::io::{Read, Write};
 
 fn main(rt: HostRuntime) -> anyhow::Result<()> {
-    let heap = rt.alloc();
+    let alloc = rt.alloc();
     // One byte more than a sheet may have tells a longer one apart.
-    let mut sheet = Vec::new(heap);
+    let mut sheet = Vec::new(alloc);
     let _ = rt.stdin().take(LONGEST as u64 + 1).read_to_end(&mut sheet)?;
-    let Ok(tariff) = Tariff::new(5_000, 3_500) else {
-        return Err(anyhow!("no such tariff"));
-    };
-    let rule = Flat::uniform(tariff);
+    let rule = Flat::uniform(Tariff::new(5_000, 3_500)?);
     let mut book = TableBook::new();
     let mut room = Room::new(&mut book, &rule);
-    let answers = clear_sheet(&mut room, sheet.as_slice(), heap)?;
+    let answers = clear_sheet(&mut room, sheet.as_slice(), alloc)?;
     rt.stdout().write_all(answers.as_slice())?;
     Ok(())
 }

@@ -1,5 +1,5 @@
 -- That every number of an answer fits its column.
-use Rattle.std.proofs.Common.{◌≡◌, ℕ, ◌+◌, ◌-◌, ◌^◌, ◌<◌, ◌≤◌, min, Bool, true, false, List, [], ◌∷◌, ◌++◌, length, ℤ, nat_abs, Some, None, Ok, Err, count_by, Option, Result, sym, refl, subst, arith, lit<, rules}
+use Rattle.std.proofs.Common.{◌≡◌, ℕ, ◌+◌, ◌-◌, ◌^◌, ◌<◌, ◌≤◌, min, Bool, true, false, List, [], ◌∷◌, ◌++◌, length, take, ℤ, nat_abs, Some, None, Ok, Err, count_by, Option, Result, sym, subst, arith, lit<, rules}
 use Rattle.std.specs.List.{range_with_len, AllByRecursion}
 use Rattle.std.specs.Option.{ok_or}
 use Rattle.std.proofs.lemmas.List.FromFn.{length-range_with_len}
@@ -10,22 +10,21 @@ use Rattle.terms.specs.declared.call.Answer.{Answer}
 use Rattle.terms.specs.declared.call.Call.{Call}
 use Rattle.terms.specs.declared.call.Call.TheVariants as call
 use Rattle.terms.specs.declared.fault.Fault.{Fault}
+use Rattle.terms.specs.declared.fault.Fault.TheVariants.{Field}
 use Rattle.terms.specs.Faults.{number_of, place_of}
 use Rattle.book.specs.Postings.{lowest_out, answer_by}
 use Rattle.steps.specs.State.{State, Series, customers, position}
 use Rattle.steps.specs.Deals.{enough, forced}
 use Rattle.steps.specs.Refusals.{refuse, first, room_refusals, book_refuses, of_book, not_empty, unmarked}
 use Rattle.steps.specs.Steps.{figure, answer, freed, moved, posts, refusal}
-use Rattle.sheet.specs.Kinds.{numbers_in}
-use Rattle.sheet.specs.Lines.{with_rest, field_of, then, ended, line_said, fitting as fitting_numbers}
+use Rattle.sheet.specs.Kinds.{numbers_in, number_in}
+use Rattle.sheet.specs.Numbers.{number_of as number_of_column}
+use Rattle.sheet.specs.Lines.{entry_said, field_of, then, ended, line_said, fitting as fitting_numbers}
 use Rattle.sheet.specs.Printed.{answered, fitting}
 use Rattle.runs.proofs.Positions.{first_within}
-use Rattle.day_sheet.specs.Fits.{RangedState, AnswersFit, UnreadFit, RefusedFits}
+use Rattle.day_sheet.specs.Fits.{RangedState, AnswersFit, UnreadFit}
 
 -- ---- the columns
-
-pub refused_fits : RefusedFits
-refused_fits = refl
 
 columns_fit : (line number place : ℕ) (a : Answer) → line ≤ 1000 → number < 1000 → place < 100000 → a.figure < 10 ^ 18 → a.lifted < 1000 → fitting (record { line = line; number = number; place = place; answer = a }) ≡ true
 columns_fit line number place a h n p f l = grind (arith, nat_tests)
@@ -71,10 +70,10 @@ book_placed left needed n (b ∷ bs) (a ∷ ms) h = let later = book_placed left
 
 -- the numbers of a call that its answer may show
 record Fields (c : Call) : Type 0 where
-  first : (numbers_in c).first < 100000
-  second : (numbers_in c).second < 100000
-  series : (numbers_in c).series < 100000
-  count : (numbers_in c).count < 100000
+  first : number_in (numbers_in c).first < 100000
+  second : number_in (numbers_in c).second < 100000
+  series : number_in (numbers_in c).series < 100000
+  count : number_in (numbers_in c).count < 100000
 
 in_fields : (c : Call) → fitting_numbers (numbers_in c) ≡ true → Fields c
 in_fields c h = record { first = grind (arith, nat_tests); second = grind (arith, nat_tests); series = grind (arith, nat_tests); count = grind (arith, nat_tests) }
@@ -136,21 +135,21 @@ then_read : {X Y : Type 0} (r : Result X Fault) (f : X → Result Y Fault) → R
 then_read (Ok x) f h k = k x
 then_read (Err e) f h k = h
 
-rest_read : (place : ℕ) (o : Option ℕ) (rest : List ℕ) → place < 100000 → Read (with_rest place o rest)
-rest_read place None rest h = h
-rest_read place (Some n) rest h = tt
-
-field_read : (place width : ℕ) (used : Bool) (xs : List ℕ) → place < 100000 → Read (field_of place width used xs)
-field_read place width used xs h = search (rules, rest_read)
-
-ended_read : {X : Type 0} (xs : List ℕ) (x : X) → Read (ended xs x)
-ended_read [] x = lit< tt
-ended_read (b ∷ []) x = search rules
-ended_read (b ∷ (c ∷ cs)) x = lit< tt
-
 ok_or_read : {X : Type 0} (o : Option X) (f : Fault) → place_of f < 100000 → Read (ok_or o f)
 ok_or_read None f h = h
 ok_or_read (Some x) f h = tt
+
+entry_read : (place : ℕ) (used : Bool) (xs : List ℕ) → place < 100000 → Read (entry_said place used xs)
+entry_read place true xs h = then_read (ok_or (number_of_column xs) (Field place)) _ (ok_or_read (number_of_column xs) (Field place) h) (λ n. tt)
+entry_read place false xs h = search rules
+
+field_read : (place width : ℕ) (used : Bool) (xs : List ℕ) → place < 100000 → Read (field_of place width used xs)
+field_read place width used xs h = let entry = entry_read place used (take width xs) h in search (rules, then_read)
+
+ended_read : (xs : List ℕ) → Read (ended xs)
+ended_read [] = lit< tt
+ended_read (b ∷ []) = search rules
+ended_read (b ∷ (c ∷ cs)) = lit< tt
 
 line_read : (text : List ℕ) → Read (line_said text)
 line_read [] = lit< tt

@@ -1,12 +1,11 @@
 -- Lines carried out and printed, one more at the end.
-use Rattle.std.proofs.Common.{◌≡◌, ℕ, zero, suc, ◌+◌, ◌*◌, ◌/◌, ◌<◌, true, ltb, List, [], ◌∷◌, ◌++◌, length, take, drop, Some, None, Ok, Err, Result, sym, refl, ap, ◌∙◌, subst, add-one, arith}
-use Rattle.std.proofs.lemmas.Bool.{cond-true, lt-ltb}
-use Rattle.std.proofs.lemmas.List.{append_assoc, append-nil, drop-drop, length_push}
+use Rattle.std.proofs.Common.{◌≡◌, ℕ, zero, suc, ◌+◌, ◌*◌, ◌≤◌, true, List, [], ◌∷◌, ◌++◌, length, take, drop, Ok, Err, Result, sym, refl, ap, ◌∙◌, subst, add-one, arith}
+use Rattle.std.proofs.lemmas.List.{append_assoc, append-nil, drop-drop, drop_at, length-append, length-drop, length_push, take_at}
 use Rattle.terms.specs.declared.call.Answer.{Answer}
 use Rattle.terms.specs.declared.call.Call.{Call}
 use Rattle.terms.specs.declared.fault.Fault.{Fault}
 use Rattle.steps.specs.State.{State}
-use Rattle.sheet.specs.Cuts.{lines_of, line_at}
+use Rattle.sheet.specs.Cuts.{lines_of}
 use Rattle.sheet.specs.Lines.{line_said}
 use Rattle.sheet.specs.Printed.{answered, columns_of, fitting}
 use Rattle.runs.specs.Runs.{Event, Run, more}
@@ -49,15 +48,21 @@ run_through [] (o ∷ os) s s' h p r = absurd p
 run_through (l ∷ ls) [] s s' h p r = absurd p
 run_through (l ∷ ls) (o ∷ os) s s' h p r = run_through ls os p.0 s' (noted h (line_said l) o) p.2 (carried_run h s p.0 (line_said l) o r p.1)
 
--- a line that the sheet has is there
-there : (n i : ℕ) (xs : List ℕ) → n * 50 ≡ length xs → i < n → line_at i xs ≡ Some (take 50 (drop (i * 50) xs))
-there n i xs e h = cond-true (ltb i (length xs / 50)) _ _ (lt-ltb i (length xs / 50) (omega arith))
+-- each line has its outcome
+pub as_many : (ls : List (List ℕ)) (os : List (Result Answer Fault)) (s s' : State) → Clears s ls os s' → length os ≡ length ls
+as_many [] [] s s' p = refl
+as_many [] (o ∷ os) s s' p = absurd p
+as_many (l ∷ ls) [] s s' p = absurd p
+as_many (l ∷ ls) (o ∷ os) s s' p = ap suc (as_many ls os p.0 s' p.2)
 
-pub line_there : (n i : ℕ) (xs ys : List ℕ) → n * 50 ≡ length xs → i < n → Some ys ≡ line_at i xs → ys ≡ take 50 (drop (i * 50) xs)
-line_there n i xs ys e h s = let p = s ∙ there n i xs e h in cc
-
-pub line_not_missing : (n i : ℕ) (xs : List ℕ) → n * 50 ≡ length xs → i < n → None ≡ line_at i xs → ⊥
-line_not_missing n i xs e h s = let p = s ∙ there n i xs e h in let z : ◌≡◌ {A = ℕ} 0 1 = cc in omega arith
+-- the line at index i comes off what is left of a sheet
+pub line_cut : (i j : ℕ) (sheet rest line after : List ℕ) → j ≡ i + 1 → rest ≡ drop (i * 50) sheet → rest ≡ line ++ after → length line ≡ 50 → (line ≡ take 50 (drop (i * 50) sheet)) × (after ≡ drop (j * 50) sheet) × (j * 50 ≤ length sheet)
+line_cut i j sheet rest line after next at cut wide =
+    let e : drop (i * 50) sheet ≡ line ++ after = sym at ∙ cut in (
+      sym (ap (take 50) e ∙ take_at line after 50 wide),
+      sym (ap (drop 50) e ∙ drop_at line after 50 wide) ∙ drop-drop 50 (i * 50) sheet ∙ ap (λ k. drop k sheet) (omega (arith, next)),
+      omega (arith, next, ap length e, length-append line after, length-drop (i * 50) sheet),
+    )
 
 -- what is carried out and printed so far
 pub record Page (s : State) (sheet : List ℕ) (i : ℕ) (os : List (Result Answer Fault)) (bytes : List ℕ) (s' : State) : Type 0 where
@@ -66,17 +71,17 @@ pub record Page (s : State) (sheet : List ℕ) (i : ℕ) (os : List (Result Answ
   pub shown : bytes ≡ printed 1 os
   pub fit : AllFit 1 os
 
-pub page_none : (s : State) (sheet bytes : List ℕ) → bytes ≡ [] → Page s sheet 0 [] bytes s
+pub page_none : (s : State) (sheet bytes : List ℕ) (i : ℕ) → i ≡ 0 → bytes ≡ [] → Page s sheet i [] bytes s
 unfolding lines_of
-page_none s sheet bytes e = record { each = refl; steps = refl; shown = e; fit = tt }
+page_none s sheet bytes i z e = subst (λ k. Page s sheet k [] bytes s) (sym z) (record { each = refl; steps = refl; shown = e; fit = tt })
 
-pub page_more : (s m s' : State) (sheet : List ℕ) (i : ℕ) (os : List (Result Answer Fault)) (bytes after line : List ℕ) (o : Result Answer Fault) → Page s sheet i os bytes m → line ≡ take 50 (drop (i * 50) sheet) → Carries m (line_said line) o s' → fitting (answered (i + 1) o) ≡ true → after ≡ bytes ++ columns_of (answered (i + 1) o) → Page s sheet (i + 1) (os ++ o ∷ []) after s'
-page_more s m s' sheet i os bytes after line o p l d f e =
-    let at : i + 1 ≡ 1 + length os = omega (arith, p.each) in
+pub page_more : (s m s' : State) (sheet : List ℕ) (i j n : ℕ) (os : List (Result Answer Fault)) (bytes after line : List ℕ) (o : Result Answer Fault) → j ≡ i + 1 → n ≡ i → Page s sheet i os bytes m → line ≡ take 50 (drop (i * 50) sheet) → Carries m (line_said line) o s' → fitting (answered (n + 1) o) ≡ true → after ≡ bytes ++ columns_of (answered (n + 1) o) → Page s sheet j (os ++ o ∷ []) after s'
+page_more s m s' sheet i j n os bytes after line o next index p l d f e =
+    let at : n + 1 ≡ 1 + length os = omega (arith, index, p.each) in
     record {
-      each = length_push os o ∙ omega (arith, p.each);
+      each = length_push os o ∙ omega (arith, next, p.each);
       steps =
-          subst (λ (ls : List (List ℕ)). Clears s ls (os ++ o ∷ []) s') (sym (lines_more i sheet ∙ ap (λ x. lines_of i sheet ++ x ∷ []) (sym l)))
+          subst (λ (ls : List (List ℕ)). Clears s ls (os ++ o ∷ []) s') (sym (ap (λ k. lines_of k sheet) next ∙ lines_more i sheet ∙ ap (λ x. lines_of i sheet ++ x ∷ []) (sym l)))
           (clears_more (lines_of i sheet) os s m s' line o p.steps d);
       shown = e ∙ (λ k. p.shown k ++ columns_of (answered (at k) o)) ∙ sym (printed_more 1 os o);
       fit = all_fit_more 1 os o p.fit (ap (λ n. fitting (answered n o)) (sym at) ∙ f);

@@ -22,10 +22,10 @@ brokers_within [] k = omega arith
 brokers_within (x ∷ xs) zero = broker_within x.broker
 brokers_within (x ∷ xs) (suc k) = brokers_within xs k
 
-pub ranged : {N : ℕ} {B R : Type 0} (book : BookGhosts B N) (rule : RuleGhosts R) (room : Room N B R) → RangedState (state_of book rule room)
+pub ranged : {B R : Type 0} (book : BookGhosts B) (rule : RuleGhosts R) (room : Room B R) → RangedState (state_of book rule room)
 ranged book rule room =
     record {
       balances = book.laws.accounts room.desk.book.now;
-      series = length-map room.desk.series.table.rows series_of ∙ room.desk.series.all;
-      brokers = λ n. brokers_within room.desk.customers.table.rows (n - 1);
+      series = length-map room.desk.series.rows series_of ∙ room.desk.series.all;
+      brokers = λ n. brokers_within room.desk.customers.rows (n - 1);
     }

@@ -49,9 +49,9 @@ abbrev pub AllFit : ℕ → List (Result Answer Fault) → Type 0
 AllFit k [] = Unit {0}
 AllFit k (o ∷ os) = (fitting (answered k o) ≡ true) × AllFit (k + 1) os
 
-module _ {N : ℕ} {B R : Type 0} (book : BookGhosts B N) (rule : RuleGhosts R) where
+module _ {B R : Type 0} (book : BookGhosts B) (rule : RuleGhosts R) where
   -- one line on a room
-  pub record Carried (from : Room N B R) (line : List ℕ) (o : Result Answer Fault) (to : Room N B R) : Type 0 where
+  pub record Carried (from : Room B R) (line : List ℕ) (o : Result Answer Fault) (to : Room B R) : Type 0 where
     pub step : Carries (state_of book rule from) (line_said line) o (state_of book rule to)
     pub fit : (k : ℕ) → k ≤ 1000 → fitting (answered k o) ≡ true
     pub lent : to.desk.book.ghost_name ≡ from.desk.book.ghost_name
@@ -59,7 +59,7 @@ module _ {N : ℕ} {B R : Type 0} (book : BookGhosts B N) (rule : RuleGhosts R) 
     pub same : is_ok o ≡ false → to ≡ from
 
   -- all lines of a sheet
-  pub record Cleared (from : Room N B R) (lines : List (List ℕ)) (bytes : List ℕ) (to : Room N B R) : Type 0 where
+  pub record Cleared (from : Room B R) (lines : List (List ℕ)) (bytes : List ℕ) (to : Room B R) : Type 0 where
     pub outcomes : List (Result Answer Fault)
     -- one outcome for each line
     pub each : length outcomes ≡ length lines
@@ -73,11 +73,11 @@ module _ {N : ℕ} {B R : Type 0} (book : BookGhosts B N) (rule : RuleGhosts R) 
     pub place : book.kept from.desk.book.now to.desk.book.now
 
   -- a sheet that is refused has one printed line, with line number 0
-  abbrev pub ByCount : Room N B R → List ℕ → Result ℕ Fault → List ℕ → Room N B R → Type 0
+  abbrev pub ByCount : Room B R → List ℕ → Result ℕ Fault → List ℕ → Room B R → Type 0
   ByCount from sheet (Ok n) bytes to = Cleared from (lines_of n sheet) bytes to
   ByCount from sheet (Err f) bytes to = (bytes ≡ columns_of (answered 0 (Err f))) × (fitting (answered 0 (Err f)) ≡ true) × (to ≡ from)
 
   -- for want of memory nothing is done
-  abbrev pub SheetCleared : Room N B R → List ℕ → Result (Vec ℕ Global) AllocError → Room N B R → Type 0
+  abbrev pub SheetCleared : Room B R → List ℕ → Result (Vec ℕ Global) AllocError → Room B R → Type 0
   SheetCleared from sheet (Ok page) to = ByCount from sheet (count_of (length sheet)) (vec_items page) to
   SheetCleared from sheet (Err e) to = to ≡ from

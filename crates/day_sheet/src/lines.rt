@@ -12,8 +12,8 @@ use terms::call::Answer;
 use terms::fault::Fault;
 
 // Makes the call that a line asks for, or refuses the line.
-pub(crate) fn carry_line<'b, 'r, const N: u64, B: Book<N>, R: MarginRule>(
-    room: &mut Room<'b, 'r, N, B, R>,
+pub(crate) fn carry_line<'b, 'r, B: Book, R: MarginRule>(
+    room: &mut Room<'b, 'r, B, R>,
     line: &[u8],
 ) -> Result<Answer, Fault>
     ensures { Carried B.Book R.MarginRule room.old line.now result room.new }
@@ -28,12 +28,8 @@ pub(crate) fn print_line(page: &mut Vec<u8>, line: u32, outcome: Result<Answer, 
     requires fit { fitting (answered line outcome) ≡ true }
     ensures items { page.new.items ≡ page.old.items ++ columns_of (answered line outcome) }
     ensures len { vec_len page.new ≡ vec_len page.old + 34 }
-    ensures capacity { vec_capacity page.new ≡ vec_capacity page.old }
+    ensures capacity { vec_capacity page.old ≤ vec_capacity page.new }
 {
-    let Some(bytes) = PrintedLine::new(line, outcome).bytes() else {
-        return;
-    };
-    for byte in &bytes {
-        page.push_reserved(*byte);
-    }
+    let bytes = PrintedLine::new(line, outcome).bytes().unwrap();
+    page.extend_from_slice(&bytes).unwrap();
 }

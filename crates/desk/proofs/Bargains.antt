@@ -1,18 +1,15 @@
 -- A bargain: what it posts, the positions that it leaves, and the call that it came from.
-use Rattle.std.proofs.Common.{◌≡◌, ℕ, ◌-◌, cond, eqb, ◌≢◌, List, [], ◌∷◌, map, get_or, set, ℤ, pos, ◌+ℤ◌, IsErrAnd, Some, None, Ok, Err, Option, Result, sym, refl, ap, ◌∙◌, arith}
+use Rattle.std.proofs.Common.{◌≡◌, ℕ, ◌-◌, cond, eqb, ◌≢◌, List, map, get_or, set, ℤ, pos, ◌+ℤ◌, IsErrAnd, Some, Ok, Err, Option, Result, sym, ap, ◌∙◌, arith}
 use Rattle.std.specs.List.{range_with_len}
 use Rattle.std.proofs.lemmas.List.{get_or-set_other}
-use Rattle.terms.specs.declared.call.Call.{Call}
 use Rattle.terms.specs.declared.fault.Fault.{Fault}
 use Rattle.steps.specs.State.{State, Customer, Series, house, no_customer, customer, series_at, position}
 use Rattle.steps.specs.Deals.{Deal, bought, sold, fees, deal_moves, with_positions}
-use Rattle.steps.specs.Refusals.{first, room_refusals, book_refuses}
-use Rattle.steps.specs.Steps.{posts, moved, figure}
+use Rattle.steps.specs.Refusals.{first, book_refuses}
 use Rattle.exposure.specs.declared.deal.Shares.{Shares}
 use Rattle.desk.specs.declared.bargain.Bargain.{Bargain}
-use Rattle.desk.specs.Bargains.{Agreed, Fair, Strikes, deal_of, deal_posts, struck}
-use Rattle.desk.specs.Moves.{Moves}
-use Rattle.desk.proofs.Steps.{asks_book, given, handed}
+use Rattle.desk.specs.Bargains.{Agreed, Fair, Strikes, deal_of, deal_posts}
+use Rattle.desk.proofs.Steps.{given}
 
 -- a refusal that `?` hands on
 pub withheld : (s : State) (d : Deal) (xs : List (Option Fault)) (f : Fault) (r : Result Bargain Fault) → IsErrAnd r (λ x. x ≡ f) → first xs ≡ Some f → Agreed s d xs r
@@ -38,9 +35,9 @@ abbrev holding : Customer → ℕ → ℤ → Customer
 holding c i z = with_positions c (set c.positions (i - 1) z)
 
 -- both rows are written, and the second is as it was before the first
-pub both_held : (s : State) (x : Bargain) → Fair s x → (cs ds : List Customer) → cs ≡ set s.customers (x.buyer.value - 1) (holding (customer s x.buyer.value) x.series.value x.buyer_after.contracts) → ds ≡ set cs (x.seller.value - 1) (holding (get_or cs (x.seller.value - 1) no_customer) x.series.value x.seller_after.contracts) → ds ≡ deal_moves s (deal_of x)
+pub both_held : (s : State) (x : Bargain) → Fair s x → (cs ds : List Customer) → cs ≡ set s.customers (x.buyer.value - 1) (holding (customer s x.buyer.value) x.lot.series.value x.buyer_after.contracts) → ds ≡ set cs (x.seller.value - 1) (holding (get_or cs (x.seller.value - 1) no_customer) x.lot.series.value x.seller_after.contracts) → ds ≡ deal_moves s (deal_of x)
 both_held s x fair cs ds p q =
-    q ∙ (λ j. set (first_row j) (x.seller.value - 1) (holding (other_row j) x.series.value (fair.sells j)))
+    q ∙ (λ j. set (first_row j) (x.seller.value - 1) (holding (other_row j) x.lot.series.value (fair.sells j)))
   where
     other : x.seller.value - 1 ≢ x.buyer.value - 1
     other e = fair.apart (omega (arith, x.buyer.low, x.seller.low))
@@ -48,13 +45,5 @@ both_held s x fair cs ds p q =
     other_row : get_or cs (x.seller.value - 1) no_customer ≡ customer s x.seller.value
     other_row = ap (λ l. get_or l (x.seller.value - 1) no_customer) p ∙ get_or-set_other s.customers (x.buyer.value - 1) (x.seller.value - 1) _ no_customer other
 
-    first_row : cs ≡ set s.customers (x.buyer.value - 1) (holding (customer s x.buyer.value) x.series.value (position s x.buyer.value x.series.value +ℤ pos x.count.value))
-    first_row = p ∙ (λ j. set s.customers (x.buyer.value - 1) (holding (customer s x.buyer.value) x.series.value (fair.buys j)))
-
--- a call whose deal is struck
-module _ (s : State) (c : Call) (d : Deal) (e : first (room_refusals s c) ≡ None) (p : deal_posts s d ≡ posts s c) where
-  pub unstruck : (s' : State) (f : Fault) (r : Result ℕ Fault) → IsErrAnd r (λ x. x ≡ f) → book_refuses s (deal_posts s d) ≡ Some f → s' ≡ s → Moves s c r s'
-  unstruck s' f r b k h = handed s s' c f r b (asks_book s c e (deal_posts s d) p ∙ ap (λ o. first (o ∷ [])) k) h
-
-  pub strikes : (s' : State) → book_refuses s (deal_posts s d) ≡ None → s' ≡ struck s d → struck s d ≡ moved s c → Moves s c (Ok (figure s c)) s'
-  strikes s' k h m = (asks_book s c e (deal_posts s d) p ∙ ap (λ o. first (o ∷ [])) k, refl, h ∙ m)
+    first_row : cs ≡ set s.customers (x.buyer.value - 1) (holding (customer s x.buyer.value) x.lot.series.value (position s x.buyer.value x.lot.series.value +ℤ pos x.lot.count.value))
+    first_row = p ∙ (λ j. set s.customers (x.buyer.value - 1) (holding (customer s x.buyer.value) x.lot.series.value (fair.buys j)))

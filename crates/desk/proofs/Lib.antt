@@ -2,6 +2,7 @@ pub mod Bargains
 pub mod Called
 pub mod Forced
 pub mod Steps
+pub mod Served
 pub mod Holders
 pub mod Marks
 pub mod Posts

@@ -33,7 +33,7 @@ pub handed : (s s' : State) (c : Call) (f : Fault) (r : Result ℕ Fault) → Is
 handed s s' c f r b e h = given (λ x. Moves s c x s') f r b (e, h)
 
 -- a desk whose book is as it was
-pub same_desk : {N : ℕ} {B R : Type 0} (d : Desk N B R) (b : B) → b ≡ d.book.now → record { phase = d.phase; customers = d.customers; series = d.series; book = record { ref_ptr = d.book.ref_ptr; ghost_name = d.book.ghost_name; now = b }; rule = d.rule } ≡ d
+pub same_desk : {B R : Type 0} (d : Desk B R) (b : B) → b ≡ d.book.now → record { phase = d.phase; customers = d.customers; series = d.series; book = record { ref_ptr = d.book.ref_ptr; ghost_name = d.book.ghost_name; now = b }; rule = d.rule } ≡ d
 same_desk d b e = λ i. record { phase = d.phase; customers = d.customers; series = d.series; book = record { ref_ptr = d.book.ref_ptr; ghost_name = d.book.ghost_name; now = e i }; rule = d.rule }
 
 module _ (s : State) (c : Call) where

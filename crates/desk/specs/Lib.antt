@@ -1,3 +1,4 @@
 pub mod Views
 pub mod Moves
+pub mod Served
 pub mod Bargains

@@ -13,7 +13,7 @@ pub(crate) fn for_one(account: AccountNumber, amount: i64) -> NetAmounts
     ensures { result ≡ map (alone account.value amount) (range_with_len 1 house) }
 {
     let mut amounts = [0; 64];
-    amounts[account.get() as usize - 1] = amount;
+    amounts[account.index()] = amount;
     amounts
 }
 
@@ -23,8 +23,8 @@ pub(crate) fn for_deal(buyer: CustomerNumber, seller: CustomerNumber, shares: Sh
 {
     let mut amounts = [0; 64];
     amounts[63] = shares.house;
-    amounts[seller.get() as usize - 1] = shares.seller;
-    amounts[buyer.get() as usize - 1] = shares.buyer;
+    amounts[seller.index()] = shares.seller;
+    amounts[buyer.index()] = shares.buyer;
     amounts
 }
 
@@ -35,7 +35,8 @@ pub(crate) fn for_transfer(from: BrokerNumber, to: CustomerNumber, amount: u64) 
 {
     let paid = amount as i64;
     let mut amounts = [0; 64];
+    // No `index`: the numbers of brokers do not start at 1.
     amounts[from.get() as usize - 1] = -paid;
-    amounts[to.get() as usize - 1] = paid;
+    amounts[to.index()] = paid;
     amounts
 }

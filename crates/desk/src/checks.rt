@@ -3,7 +3,7 @@ ghost use Rattle.std.specs.Prelude.{◌≡◌, ◌≤◌, not, ◌&&◌, map};
 ghost use Rattle.steps.specs.Margins.{margins_of};
 ghost use Rattle.steps.specs.Phases.{phase_number};
 ghost use Rattle.steps.specs.State.{is_customer, enrolled, is_open};
-ghost use Rattle.steps.specs.Refusals.{refuse, in_phase, stranger, not_open, unmarked};
+ghost use Rattle.steps.specs.Refusals.{refuse, in_phase, stranger, not_open, broker_of, unmarked};
 ghost use Rattle.terms.specs.declared.fault.Fault.TheVariants.{WrongPhase, Enrolment};
 ghost use Rattle.tables.specs.Views.{series_of};
 ghost use Rattle.desk.specs.Moves.{Granted};
@@ -11,45 +11,47 @@ ghost use Rattle.desk.specs.Views.{state};
 
 use crate::desk::Desk;
 use book::Book;
-use exposure::margins::margins;
+use exposure::margins::Valuation;
 use margin::rule::MarginRule;
 use steps::{Phase, Stage};
 use tables::series::Series;
 use terms::fault::Fault;
-use terms::ranges::{CustomerNumber, Ranged, SeriesNumber};
+use terms::ranges::{BrokerNumber, CustomerNumber, SeriesNumber};
 
-impl<'b, 'r, const N: u64, B: Book<N>, R: MarginRule> Desk<'b, 'r, N, B, R> {
-    // That the phase is one of these.
-    pub(crate) fn in_phase(&self, first: Phase, last: Phase) -> Result<(), Fault>
-        ensures { Granted result (refuse (not (in_phase (state B.Book R.MarginRule self.now) (phase_number first, phase_number last))) WrongPhase) (λ _. Unit {0}) }
+impl<'b, 'r, B: Book, R: MarginRule> Desk<'b, 'r, B, R> {
+    // That the phase lies from the first of these to the last.
+    pub(crate) fn in_phase(&self, phases: (Phase, Phase)) -> Result<(), Fault>
+        ensures { Granted result (refuse (not (in_phase (state B.Book R.MarginRule self.now) (phase_number phases.0, phase_number phases.1))) WrongPhase) (λ _. Unit {0}) }
     {
-        let phase = self.phase.number();
-        if first.number() <= phase && phase <= last.number() {
+        if phases.0 <= self.phase && self.phase <= phases.1 {
             Ok(())
         } else {
             Err(Fault::WrongPhase)
         }
     }
 
+    // The broker of a customer that is enrolled.
+    pub(crate) fn broker_of(&self, customer: CustomerNumber) -> Result<BrokerNumber, Fault>
+        ensures { Granted result (stranger (state B.Book R.MarginRule self.now) customer.value) (λ b. b.value ≡ broker_of (state B.Book R.MarginRule self.now) customer.value) }
+    {
+        let row = self.customers.get(customer);
+        row.broker.ok_or(Fault::Enrolment {
+            customer: customer.get() as u32,
+        })
+    }
+
     // That a customer is enrolled.
     pub(crate) fn knows(&self, customer: CustomerNumber) -> Result<(), Fault>
         ensures { Granted result (stranger (state B.Book R.MarginRule self.now) customer.value) (λ _. Unit {0}) }
     {
-        let row = self.customers.get(customer);
-        if row.broker.is_some() {
-            Ok(())
-        } else {
-            Err(Fault::Enrolment {
-                customer: customer.get() as u32,
-            })
-        }
+        self.broker_of(customer).map(|_| ())
     }
 
     // That an account is enrolled if it is a customer's.
     pub(crate) fn knows_account(&self, account: u32) -> Result<(), Fault>
         ensures { Granted result (refuse (is_customer account && not (enrolled (state B.Book R.MarginRule self.now) account)) (Enrolment account)) (λ _. Unit {0}) }
     {
-        match Ranged::new(account as u64) {
+        match CustomerNumber::new(u64::from(account)) {
             Some(customer) => self.knows(customer),
             None => Ok(()),
         }
@@ -61,7 +63,18 @@ impl<'b, 'r, const N: u64, B: Book<N>, R: MarginRule> Desk<'b, 'r, N, B, R> {
         ensures bounded { result.0 ≤ 24000000000000000 }
     {
         let row = self.customers.get(customer);
-        margins(self.rule, &self.series, &row.positions)
+        self.valuation().margins(&row.positions)
+    }
+
+    // What positions are valued by.
+    pub(crate) fn valuation(&self) -> Valuation<'_, R>
+        ensures rule { result.rule.now ≡ self.now.rule.now }
+        ensures series { result.series.now ≡ self.now.series }
+    {
+        Valuation {
+            rule: self.rule,
+            series: &self.series,
+        }
     }
 
     // That a series is listed and has not ended.
@@ -81,7 +94,7 @@ impl<'b, 'r, const N: u64, B: Book<N>, R: MarginRule> Desk<'b, 'r, N, B, R> {
     pub(crate) fn all_marked(&self) -> Result<(), Fault>
         ensures { Granted result (unmarked 1 (state B.Book R.MarginRule self.now).series) (λ _. Unit {0}) }
     {
-        check_marks(&self.series.table.rows)
+        check_marks(&self.series.rows)
     }
 }
 
@@ -95,8 +108,8 @@ fn lacks_mark(series: &Series) -> bool
 fn check_marks(all: &[Series; 24]) -> Result<(), Fault>
     ensures { Granted result (unmarked 1 (map series_of all.now)) (λ _. Unit {0}) }
 {
-    for i in 0..24 {
-        if lacks_mark(&all[i]) {
+    for (i, series) in all.iter().enumerate() {
+        if lacks_mark(series) {
             return Err(Fault::Marking {
                 series: i as u32 + 1,
             });

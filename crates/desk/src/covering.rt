@@ -1,14 +1,15 @@
 //! A broker pays its customer's debt.
-ghost use Rattle.std.specs.Prelude.{◌≡◌, ◌≤◌, false, is_ok};
+ghost use Rattle.std.specs.Prelude.{◌≡◌, ◌≤◌};
 ghost use Rattle.terms.specs.declared.call.Call.TheVariants.{Cover};
-ghost use Rattle.steps.specs.Refusals.{first, room_refusals, stranger, broker_of};
+ghost use Rattle.steps.specs.Refusals.{first, room_refusals, broker_of};
 ghost use Rattle.steps.specs.Steps.{covered};
-ghost use Rattle.desk.specs.Moves.{Granted, Moves};
+ghost use Rattle.desk.specs.Moves.{Granted};
+ghost use Rattle.desk.specs.Served.{Served};
 ghost use Rattle.desk.specs.Views.{state};
 
 use crate::amounts::for_transfer;
 use crate::desk::Desk;
-use crate::numbers::customer_number;
+use crate::numbers::account_in;
 use book::{Book, post_all};
 use margin::rule::MarginRule;
 use steps::Phase;
@@ -23,24 +24,12 @@ struct Payment {
     amount: u64,
 }
 
-impl<'b, 'r, const N: u64, B: Book<N>, R: MarginRule> Desk<'b, 'r, N, B, R> {
-    fn broker_of(&self, customer: CustomerNumber) -> Result<BrokerNumber, Fault>
-        ensures { Granted result (stranger (state B.Book R.MarginRule self.now) customer.value) (λ b. b.value ≡ broker_of (state B.Book R.MarginRule self.now) customer.value) }
-    {
-        let row = self.customers.get(customer);
-        match row.broker {
-            Some(broker) => Ok(broker),
-            None => Err(Fault::Enrolment {
-                customer: customer.get() as u32,
-            }),
-        }
-    }
-
+impl<'b, 'r, B: Book, R: MarginRule> Desk<'b, 'r, B, R> {
     fn check_cover(&self, account: u32) -> Result<Payment, Fault>
         ensures { Granted result (first (room_refusals (state B.Book R.MarginRule self.now) (Cover account))) (λ p. (p.from.value ≡ broker_of (state B.Book R.MarginRule self.now) account) × (p.to.value ≡ account) × (p.amount ≡ covered (state B.Book R.MarginRule self.now) account) × (p.amount ≤ 1000000000000000000)) }
     {
-        let to = customer_number(account)?;
-        self.in_phase(Phase::Shut, Phase::Shut)?;
+        let to = account_in(account)?;
+        self.in_phase((Phase::Shut, Phase::Shut))?;
         let from = self.broker_of(to)?;
         let balance = self.book.balance(account);
         if balance >= 0 {
@@ -59,10 +48,7 @@ impl<'b, 'r, const N: u64, B: Book<N>, R: MarginRule> Desk<'b, 'r, N, B, R> {
 
     /// Has the broker pay what the customer's balance lacks to 0, as far as its own balance goes.
     pub fn cover(&mut self, customer: u32) -> Result<u64, Fault>
-        ensures moves { Moves (state B.Book R.MarginRule self.old) (Cover customer) result (state B.Book R.MarginRule self.new) }
-        ensures lent { self.new.book.ghost_name ≡ self.old.book.ghost_name }
-        ensures place { B.Book.kept self.old.book.now self.new.book.now }
-        ensures same { is_ok result ≡ false → self.new ≡ self.old }
+        ensures { Served B.Book R.MarginRule self.old (Cover customer) result self.new }
     {
         let payment = self.check_cover(customer)?;
         let amounts = for_transfer(payment.from, payment.to, payment.amount);

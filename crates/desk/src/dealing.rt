@@ -6,13 +6,14 @@ ghost use Rattle.steps.specs.Phases.{phase_number};
 ghost use Rattle.steps.specs.Steps.{trade_deal};
 ghost use Rattle.steps.specs.Refusals.{first, room_refusals, refuse, bad_count, bad_price};
 ghost use Rattle.desk.specs.Bargains.{Agreed, Fair, Strikes, deal_of, trade_of, parties, terms_refusals};
-ghost use Rattle.desk.specs.Moves.{Granted, Moves};
+ghost use Rattle.desk.specs.Moves.{Granted};
+ghost use Rattle.desk.specs.Served.{Served};
 ghost use Rattle.desk.specs.Views.{state};
 
 use crate::amounts::for_deal;
-use crate::bargain::{Bargain, Terms};
+use crate::bargain::{Bargain, Lot, Side, Terms};
 use crate::desk::Desk;
-use crate::numbers::{count_in_range, customer_number, price_in_range, series_number};
+use crate::numbers::{account_in, in_range, series_number};
 use book::{Book, post_all};
 use exposure::deal::deal;
 use margin::rule::MarginRule;
@@ -24,9 +25,7 @@ use terms::ranges::{Count, Price};
 fn count_and_price(count: u64, price: u64) -> Result<(Count, Price), Fault>
     ensures { Granted result (refuse (bad_count count || bad_price price) OutOfRange) (λ x. (x.0.value ≡ count) × (x.1.value ≡ price)) }
 {
-    let count = count_in_range(count)?;
-    let price = price_in_range(price)?;
-    Ok((count, price))
+    Ok((in_range(count)?, in_range(price)?))
 }
 
 // That there are two parties.
@@ -39,8 +38,9 @@ fn check_apart(one: u32, other: u32) -> Result<(), Fault>
     Ok(())
 }
 
-impl<'b, 'r, const N: u64, B: Book<N>, R: MarginRule> Desk<'b, 'r, N, B, R> {
-    // The terms of a deal, with what is tested of every deal first.
+impl<'b, 'r, B: Book, R: MarginRule> Desk<'b, 'r, B, R> {
+    // The terms of a deal, with what is tested of every deal first. Until then its numbers are raw, and come one by one as
+    // in the call: a struct of them would promise nothing that the call does not.
     pub(crate) fn check_terms(
         &self,
         one: u32,
@@ -50,23 +50,25 @@ impl<'b, 'r, const N: u64, B: Book<N>, R: MarginRule> Desk<'b, 'r, N, B, R> {
         price: u64,
         phases: (Phase, Phase),
     ) -> Result<Terms, Fault>
-        ensures { Granted result (first (terms_refusals (state B.Book R.MarginRule self.now) (phase_number phases.0, phase_number phases.1) one other series count price)) (λ t. (t.one.value ≡ one) × (t.other.value ≡ other) × (t.series.value ≡ series) × (t.count.value ≡ count) × (t.price.value ≡ price)) }
+        ensures { Granted result (first (terms_refusals (state B.Book R.MarginRule self.now) (phase_number phases.0, phase_number phases.1) one other series count price)) (λ t. (t.one.value ≡ one) × (t.other.value ≡ other) × (t.lot.series.value ≡ series) × (t.lot.count.value ≡ count) × (t.lot.price.value ≡ price)) }
     {
-        let first = customer_number(one)?;
-        let second = customer_number(other)?;
+        let first = account_in(one)?;
+        let second = account_in(other)?;
         let number = series_number(series)?;
         let (count, price) = count_and_price(count, price)?;
         check_apart(one, other)?;
-        self.in_phase(phases.0, phases.1)?;
+        self.in_phase(phases)?;
         self.knows(first)?;
         self.knows(second)?;
         self.deals_in(number)?;
         Ok(Terms {
             one: first,
             other: second,
-            series: number,
-            count,
-            price,
+            lot: Lot {
+                series: number,
+                count,
+                price,
+            },
         })
     }
 
@@ -78,14 +80,14 @@ impl<'b, 'r, const N: u64, B: Book<N>, R: MarginRule> Desk<'b, 'r, N, B, R> {
         ensures place { B.Book.kept self.old.book.now self.new.book.now }
         ensures same { is_ok result ≡ false → self.new ≡ self.old }
     {
-        let series = bargain.series;
-        let shares = deal(self.series.get(series), bargain.count, bargain.price);
+        let lot = bargain.lot;
+        let shares = deal(self.series.get(lot.series), lot.count, lot.price);
         let amounts = for_deal(bargain.buyer, bargain.seller, shares);
         post_all(self.book, &amounts)?;
         self.customers
-            .hold(bargain.buyer, series, bargain.buyer_after);
+            .hold(bargain.buyer, lot.series, bargain.buyer_after);
         self.customers
-            .hold(bargain.seller, series, bargain.seller_after);
+            .hold(bargain.seller, lot.series, bargain.seller_after);
         Ok(())
     }
 
@@ -93,16 +95,13 @@ impl<'b, 'r, const N: u64, B: Book<N>, R: MarginRule> Desk<'b, 'r, N, B, R> {
     fn check_parties(&self, terms: &Terms) -> Result<Bargain, Fault>
         ensures { Agreed (state B.Book R.MarginRule self.now) (trade_of terms.now) (parties (state B.Book R.MarginRule self.now) (trade_of terms.now)) result }
     {
-        let (buyer, seller, series) = (terms.one, terms.other, terms.series);
-        let (count, price) = (terms.count, terms.price);
-        let buyer_after = self.check_buyer(buyer, series, count, price)?;
-        let seller_after = self.check_seller(seller, series, count, price)?;
+        let (buyer, seller, lot) = (terms.one, terms.other, terms.lot);
+        let buyer_after = self.check_side(Side::Buyer, buyer, lot)?;
+        let seller_after = self.check_side(Side::Seller, seller, lot)?;
         Ok(Bargain {
             buyer,
             seller,
-            series,
-            count,
-            price,
+            lot,
             buyer_after,
             seller_after,
         })
@@ -132,10 +131,7 @@ impl<'b, 'r, const N: u64, B: Book<N>, R: MarginRule> Desk<'b, 'r, N, B, R> {
         count: u64,
         price: u64,
     ) -> Result<u64, Fault>
-        ensures moves { Moves (state B.Book R.MarginRule self.old) (Trade buyer seller series count price) result (state B.Book R.MarginRule self.new) }
-        ensures lent { self.new.book.ghost_name ≡ self.old.book.ghost_name }
-        ensures place { B.Book.kept self.old.book.now self.new.book.now }
-        ensures same { is_ok result ≡ false → self.new ≡ self.old }
+        ensures { Served B.Book R.MarginRule self.old (Trade buyer seller series count price) result self.new }
     {
         let bargain = self.check_trade(buyer, seller, series, count, price)?;
         self.strike(bargain)?;

@@ -1,38 +1,32 @@
 //! Forced closes of the positions of customers under notice.
-ghost use Rattle.std.specs.Prelude.{◌≡◌, ◌≤◌, false, is_ok, unsigned_abs};
+ghost use Rattle.std.specs.Prelude.{◌≡◌, ◌≤◌, unsigned_abs};
 ghost use Rattle.terms.specs.declared.call.Call.TheVariants.{Force};
 ghost use Rattle.steps.specs.State.{position};
-ghost use Rattle.steps.specs.Deals.{forced, force_deal, is_long};
+ghost use Rattle.steps.specs.Deals.{forced, force_deal};
 ghost use Rattle.steps.specs.Refusals.{room_refusals, counterparty as counterparty_refusals};
 ghost use Rattle.exposure.specs.Forced.{closed as closed_by};
 ghost use Rattle.desk.specs.Bargains.{Agreed, closing_of, unforced};
-ghost use Rattle.desk.specs.Moves.{Granted, Moves};
+ghost use Rattle.desk.specs.Moves.{Granted};
+ghost use Rattle.desk.specs.Served.{Served};
 ghost use Rattle.desk.specs.Views.{state};
 
-use crate::bargain::{Bargain, Terms};
+use crate::bargain::{Bargain, Lot, Side, Terms};
 use crate::desk::Desk;
 use book::Book;
-use exposure::force::least_count;
 use margin::rule::MarginRule;
 use steps::Phase;
 use tables::position::Position;
 use terms::fault::Fault;
 use terms::ranges::{Count, CustomerNumber, SeriesNumber};
 
-// Whether a close sells: it buys a short position back.
-fn is_long(held: Position) -> bool
-    ensures { result ≡ is_long held.contracts }
-{
-    held.get() >= 0
-}
-
-// What is left of a position once so many contracts of it are closed.
+// What is left of a position once so many contracts of it are closed. That it has so many is asked for here and where the
+// deal is made, since only `forced_count` finds it, and for the position that the customer has.
 fn closed(held: Position, count: Count) -> Position
     requires { count.value ≤ unsigned_abs held.contracts }
     ensures { result.contracts ≡ closed_by held.contracts count.value }
 {
     let count = count.get() as i64;
-    if is_long(held) {
+    if held.is_long() {
         Position {
             contracts: held.get() - count,
         }
@@ -43,7 +37,7 @@ fn closed(held: Position, count: Count) -> Position
     }
 }
 
-impl<'b, 'r, const N: u64, B: Book<N>, R: MarginRule> Desk<'b, 'r, N, B, R> {
+impl<'b, 'r, B: Book, R: MarginRule> Desk<'b, 'r, B, R> {
     // The position of a customer that can be forced: it is under notice and holds contracts there.
     fn check_forced(
         &self,
@@ -64,48 +58,42 @@ impl<'b, 'r, const N: u64, B: Book<N>, R: MarginRule> Desk<'b, 'r, N, B, R> {
 
     // How many contracts are closed: the count of these terms is the offer.
     fn forced_count(&self, terms: &Terms) -> Count
-        ensures { result.value ≡ forced (state B.Book R.MarginRule self.now) terms.now.one.value terms.now.series.value terms.now.count.value terms.now.price.value }
+        ensures { result.value ≡ forced (state B.Book R.MarginRule self.now) terms.now.one.value terms.now.lot.series.value terms.now.lot.count.value terms.now.lot.price.value }
     {
         let row = self.customers.get(terms.one);
-        least_count(
-            self.rule,
-            &self.series,
+        self.valuation().least_count(
             &row.positions,
-            terms.series,
+            terms.lot.series,
             self.book.balance(terms.one.get() as u32),
-            terms.count,
-            terms.price,
+            terms.lot.count,
+            terms.lot.price,
         )
     }
 
     // The deal that closes so many contracts of one's position: the other buys a long one, and sells a short one back.
     fn check_closing(&self, terms: &Terms, held: Position, count: Count) -> Result<Bargain, Fault>
-        requires held { held.contracts ≡ position (state B.Book R.MarginRule self.now) terms.now.one.value terms.now.series.value }
+        requires held { held.contracts ≡ position (state B.Book R.MarginRule self.now) terms.now.one.value terms.now.lot.series.value }
         requires count { count.value ≤ unsigned_abs held.contracts }
-        ensures { Agreed (state B.Book R.MarginRule self.now) (closing_of (state B.Book R.MarginRule self.now) terms.now count.value) (counterparty_refusals (state B.Book R.MarginRule self.now) terms.now.other.value terms.now.series.value (closing_of (state B.Book R.MarginRule self.now) terms.now count.value)) result }
+        ensures { Agreed (state B.Book R.MarginRule self.now) (closing_of (state B.Book R.MarginRule self.now) terms.now count.value) (counterparty_refusals (state B.Book R.MarginRule self.now) terms.now.other.value terms.now.lot.series.value (closing_of (state B.Book R.MarginRule self.now) terms.now count.value)) result }
     {
         let (one, other) = (terms.one, terms.other);
-        let (series, price) = (terms.series, terms.price);
+        let lot = Lot { count, ..terms.lot };
         let left = closed(held, count);
-        if is_long(held) {
-            let buyer_after = self.check_buyer(other, series, count, price)?;
+        if held.is_long() {
+            let buyer_after = self.check_side(Side::Buyer, other, lot)?;
             Ok(Bargain {
                 buyer: other,
                 seller: one,
-                series,
-                count,
-                price,
+                lot,
                 buyer_after,
                 seller_after: left,
             })
         } else {
-            let seller_after = self.check_seller(other, series, count, price)?;
+            let seller_after = self.check_side(Side::Seller, other, lot)?;
             Ok(Bargain {
                 buyer: one,
                 seller: other,
-                series,
-                count,
-                price,
+                lot,
                 buyer_after: left,
                 seller_after,
             })
@@ -124,7 +112,7 @@ impl<'b, 'r, const N: u64, B: Book<N>, R: MarginRule> Desk<'b, 'r, N, B, R> {
     {
         let phases = (Phase::Late, Phase::Shut);
         let terms = self.check_terms(customer, counterparty, series, offer, price, phases)?;
-        let held = self.check_forced(terms.one, terms.series)?;
+        let held = self.check_forced(terms.one, terms.lot.series)?;
         let count = self.forced_count(&terms);
         self.check_closing(&terms, held, count)
     }
@@ -139,13 +127,10 @@ impl<'b, 'r, const N: u64, B: Book<N>, R: MarginRule> Desk<'b, 'r, N, B, R> {
         offer: u64,
         price: u64,
     ) -> Result<u64, Fault>
-        ensures moves { Moves (state B.Book R.MarginRule self.old) (Force customer counterparty series offer price) result (state B.Book R.MarginRule self.new) }
-        ensures lent { self.new.book.ghost_name ≡ self.old.book.ghost_name }
-        ensures place { B.Book.kept self.old.book.now self.new.book.now }
-        ensures same { is_ok result ≡ false → self.new ≡ self.old }
+        ensures { Served B.Book R.MarginRule self.old (Force customer counterparty series offer price) result self.new }
     {
         let bargain = self.check_force(customer, counterparty, series, offer, price)?;
         self.strike(bargain)?;
-        Ok(bargain.count.get())
+        Ok(bargain.lot.count.get())
     }
 }

@@ -1,16 +1,17 @@
 //! Series are marked to market, and end.
-ghost use Rattle.std.specs.Prelude.{◌≡◌, ◌-◌, false, map, pos, ◌-ℤ◌, ◌*ℤ◌, is_ok, if◌then◌else◌, slice_index_or};
+ghost use Rattle.std.specs.Prelude.{◌≡◌, ◌-◌, map, pos, ◌-ℤ◌, ◌*ℤ◌, if◌then◌else◌, slice_index_or};
 ghost use Rattle.std.specs.List.{range_with_len};
 ghost use Rattle.terms.specs.declared.call.Call.TheVariants.{Mark, Final};
 ghost use Rattle.terms.specs.declared.fault.Fault.TheVariants.{Marking};
 ghost use Rattle.steps.specs.State.{is_customer, house, series_at};
 ghost use Rattle.steps.specs.Refusals.{first, refuse, room_refusals};
 ghost use Rattle.tables.specs.Views.{customer_at, series_of};
-ghost use Rattle.desk.specs.Moves.{Granted, Moves};
+ghost use Rattle.desk.specs.Moves.{Granted};
+ghost use Rattle.desk.specs.Served.{Served};
 ghost use Rattle.desk.specs.Views.{state};
 
 use crate::desk::Desk;
-use crate::numbers::{price_in_range, series_number};
+use crate::numbers::{in_range, series_number};
 use book::{Book, NetAmounts, post_all};
 use exposure::deal::revalued;
 use margin::rule::MarginRule;
@@ -30,15 +31,14 @@ fn for_holders(
     ensures { result ≡ map (λ n. (if is_customer n then slice_index_or (customer_at customers.now n).positions (number.value - 1) (pos 0) *ℤ pos (series_of series.now).size *ℤ (pos price.value -ℤ pos (series_of series.now).price) else pos 0)) (range_with_len 1 house) }
 {
     let mut amounts = [0; 64];
-    for at in 0..56 {
-        let position = customers.table.rows[at].positions.get(number);
-        amounts[at] = revalued(position, series, price);
+    for (at, customer) in customers.rows.iter().enumerate() {
+        amounts[at] = revalued(customer.positions.get(number), series, price);
     }
     amounts
 }
 
-impl<'b, 'r, const N: u64, B: Book<N>, R: MarginRule> Desk<'b, 'r, N, B, R> {
-    fn is_unmarked(&self, series: SeriesNumber) -> Result<(), Fault>
+impl<'b, 'r, B: Book, R: MarginRule> Desk<'b, 'r, B, R> {
+    fn check_unmarked(&self, series: SeriesNumber) -> Result<(), Fault>
         ensures { Granted result (refuse (series_at (state B.Book R.MarginRule self.now) series.value).marked (Marking series.value)) (λ _. Unit {0}) }
     {
         let row = self.series.get(series);
@@ -56,19 +56,18 @@ impl<'b, 'r, const N: u64, B: Book<N>, R: MarginRule> Desk<'b, 'r, N, B, R> {
         ensures { Granted result (first (room_refusals (state B.Book R.MarginRule self.now) (Mark series price))) (λ x. (x.0.value ≡ series) × (x.1.value ≡ price)) }
     {
         let number = series_number(series)?;
-        let at = price_in_range(price)?;
-        self.in_phase(Phase::Shut, Phase::Shut)?;
+        let at = in_range(price)?;
+        self.in_phase((Phase::Shut, Phase::Shut))?;
         self.deals_in(number)?;
-        self.is_unmarked(number)?;
+        self.check_unmarked(number)?;
         Ok((number, at))
     }
 
+    // What `mark` and `end` share stays in each: a method of it would have to say what a desk is that has posted and not yet marked.
+
     /// Posts to each holder what its position gained or lost since the standing price; the new price stands.
     pub fn mark(&mut self, series: u32, price: u64) -> Result<u64, Fault>
-        ensures moves { Moves (state B.Book R.MarginRule self.old) (Mark series price) result (state B.Book R.MarginRule self.new) }
-        ensures lent { self.new.book.ghost_name ≡ self.old.book.ghost_name }
-        ensures place { B.Book.kept self.old.book.now self.new.book.now }
-        ensures same { is_ok result ≡ false → self.new ≡ self.old }
+        ensures { Served B.Book R.MarginRule self.old (Mark series price) result self.new }
     {
         let (number, at) = self.check_mark(series, price)?;
         let amounts = for_holders(&self.customers, number, self.series.get(number), at);
@@ -79,10 +78,7 @@ impl<'b, 'r, const N: u64, B: Book<N>, R: MarginRule> Desk<'b, 'r, N, B, R> {
 
     /// Marks a series for the last time; then nobody holds a position in it, and it has ended.
     pub fn end(&mut self, series: u32, price: u64) -> Result<u64, Fault>
-        ensures moves { Moves (state B.Book R.MarginRule self.old) (Final series price) result (state B.Book R.MarginRule self.new) }
-        ensures lent { self.new.book.ghost_name ≡ self.old.book.ghost_name }
-        ensures place { B.Book.kept self.old.book.now self.new.book.now }
-        ensures same { is_ok result ≡ false → self.new ≡ self.old }
+        ensures { Served B.Book R.MarginRule self.old (Final series price) result self.new }
     {
         let (number, at) = self.check_mark(series, price)?;
         let amounts = for_holders(&self.customers, number, self.series.get(number), at);

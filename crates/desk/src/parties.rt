@@ -1,23 +1,25 @@
 //! The tests of a party of a deal.
-ghost use Rattle.std.specs.Prelude.{◌≡◌, ◌-◌, not, ◌&&◌, pos, ◌+ℤ◌, neg_ℤ, nat_lt, slice_set, unsigned_abs};
+ghost use Rattle.std.specs.Prelude.{◌≡◌, ◌-◌, not, ◌&&◌, ◌+ℤ◌, nat_lt, slice_set, unsigned_abs};
 ghost use Rattle.terms.specs.declared.fault.Fault.TheVariants.{UnderNotice, PastLimit, BelowMargin};
 ghost use Rattle.steps.specs.State.{customer as customer_in, series_at, position, balance, under_notice};
 ghost use Rattle.steps.specs.Margins.{margins as margins_in, lacks as lacks_margin};
-ghost use Rattle.steps.specs.Deals.{closes as closes_by, bought, sold};
+ghost use Rattle.steps.specs.Deals.{closes as closes_by};
 ghost use Rattle.steps.specs.Refusals.{first, refuse, party};
+ghost use Rattle.desk.specs.Bargains.{of_side, moves_by};
 ghost use Rattle.desk.specs.Moves.{Granted};
 ghost use Rattle.desk.specs.Views.{state};
 
+use crate::bargain::{Lot, Side};
 use crate::desk::Desk;
 use book::Book;
 use exposure::deal::{closes, deal, lacks};
-use exposure::margins::margins;
 use margin::rule::MarginRule;
 use tables::position::Position;
 use terms::fault::Fault;
-use terms::ranges::{Count, CustomerNumber, Price, SeriesNumber};
+use terms::ranges::{CustomerNumber, SeriesNumber};
 
-impl<'b, 'r, const N: u64, B: Book<N>, R: MarginRule> Desk<'b, 'r, N, B, R> {
+impl<'b, 'r, B: Book, R: MarginRule> Desk<'b, 'r, B, R> {
+    // Each test takes what its refusal speaks of, one by one: a struct would bring to each what the others need.
     // That a party under notice closes.
     fn check_notice(&self, customer: CustomerNumber, closing: bool) -> Result<(), Fault>
         ensures { Granted result (refuse (under_notice (state B.Book R.MarginRule self.now) customer.value && not closing) (UnderNotice customer.value)) (λ _. Unit {0}) }
@@ -70,7 +72,7 @@ impl<'b, 'r, const N: u64, B: Book<N>, R: MarginRule> Desk<'b, 'r, N, B, R> {
         let row = self.customers.get(customer);
         let mut positions = row.positions;
         positions.put(series, after);
-        let (initial, _) = margins(self.rule, &self.series, &positions);
+        let (initial, _) = self.valuation().margins(&positions);
         if lacks(self.book.balance(account), amount, initial) {
             return Err(Fault::BelowMargin { account });
         }
@@ -95,31 +97,25 @@ impl<'b, 'r, const N: u64, B: Book<N>, R: MarginRule> Desk<'b, 'r, N, B, R> {
         Ok(after)
     }
 
-    // Tests whoever buys, and gives the position that it has afterwards.
-    pub(crate) fn check_buyer(
+    // Tests whoever deals on a side, and gives the position that it has afterwards.
+    pub(crate) fn check_side(
         &self,
+        side: Side,
         customer: CustomerNumber,
-        series: SeriesNumber,
-        count: Count,
-        price: Price,
+        lot: Lot,
     ) -> Result<Position, Fault>
-        ensures { Granted result (first (party (state B.Book R.MarginRule self.now) customer.value series.value (pos count.value) (bought (series_at (state B.Book R.MarginRule self.now) series.value) count.value price.value))) (λ p. p.contracts ≡ position (state B.Book R.MarginRule self.now) customer.value series.value +ℤ pos count.value) }
+        ensures { Granted result (first (of_side (state B.Book R.MarginRule self.now) side customer.value lot.series.value lot.count.value lot.price.value)) (λ p. p.contracts ≡ position (state B.Book R.MarginRule self.now) customer.value lot.series.value +ℤ moves_by side lot.count.value) }
     {
-        let shares = deal(self.series.get(series), count, price);
-        self.check_party(customer, series, Position::long(count), shares.buyer)
-    }
-
-    // Tests whoever sells, and gives the position that it has afterwards.
-    pub(crate) fn check_seller(
-        &self,
-        customer: CustomerNumber,
-        series: SeriesNumber,
-        count: Count,
-        price: Price,
-    ) -> Result<Position, Fault>
-        ensures { Granted result (first (party (state B.Book R.MarginRule self.now) customer.value series.value (neg_ℤ (pos count.value)) (sold (series_at (state B.Book R.MarginRule self.now) series.value) count.value price.value))) (λ p. p.contracts ≡ position (state B.Book R.MarginRule self.now) customer.value series.value +ℤ neg_ℤ (pos count.value)) }
-    {
-        let shares = deal(self.series.get(series), count, price);
-        self.check_party(customer, series, Position::short(count), shares.seller)
+        let shares = deal(self.series.get(lot.series), lot.count, lot.price);
+        match side {
+            Side::Buyer => {
+                let by = Position::long(lot.count);
+                self.check_party(customer, lot.series, by, shares.buyer)
+            }
+            Side::Seller => {
+                let by = Position::short(lot.count);
+                self.check_party(customer, lot.series, by, shares.seller)
+            }
+        }
     }
 }

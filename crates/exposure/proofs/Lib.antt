@@ -2,4 +2,3 @@ pub mod Products
 pub mod Sums
 pub mod Counts
 pub mod Closed
-pub mod Forced

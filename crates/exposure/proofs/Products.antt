@@ -1,18 +1,8 @@
 -- Products of three numbers: how large, in another order, and as the code computes them.
-use Rattle.std.proofs.Common.{◌≡◌, ℕ, zero, suc, ◌*◌, ◌≤◌, ℤ, pos, negsuc, ◌*ℤ◌, neg_ℤ, nat_abs, sym, refl, ap, ◌∙◌, subst, mul_assoc, add-mul, mul-le-mul, mul-add, arith, w64, SFits, to_z, of_z}
+use Rattle.std.proofs.Common.{◌≡◌, ℕ, ◌≤◌, ℤ, pos, ◌*ℤ◌, nat_abs, sym, ap, ◌∙◌, subst, mul_assoc, add-mul, mul-le-mul, mul-add, arith, w64, SFits, to_z, of_z}
 use borrow.Author.Differences.{same_in, product_is}
 use lib.IntN.{*ℤ_comm}
-use Rattle.std.proofs.lemmas.Int.{ints}
-
-abs_neg : (n : ℕ) → nat_abs (neg_ℤ (pos n)) ≡ n
-abs_neg zero = refl
-abs_neg (suc n) = refl
-
-abs_product : (a b : ℤ) → nat_abs (a *ℤ b) ≡ nat_abs a * nat_abs b
-abs_product (pos a) (pos b) = refl
-abs_product (pos a) (negsuc b) = abs_neg (a * suc b)
-abs_product (negsuc a) (pos b) = abs_neg (suc a * b)
-abs_product (negsuc a) (negsuc b) = refl
+use Rattle.std.proofs.lemmas.Int.{ints, unsigned_abs-mul}
 
 *ℤ_assoc : (a b c : ℤ) → (a *ℤ b) *ℤ c ≡ a *ℤ (b *ℤ c)
 *ℤ_assoc a b c = same_in _ _ (rw ((product_is (a *ℤ b) c).0, (product_is (a *ℤ b) c).1, (product_is a (b *ℤ c)).0, (product_is a (b *ℤ c)).1, (product_is a b).0, (product_is a b).1, (product_is b c).0, (product_is b c).1) (simp (mul-add, add-mul, mul_assoc) (omega arith)))
@@ -30,10 +20,10 @@ back z h = omega (arith, ints)
 -- a position, a size, and how far a price moves
 module _ (a c : ℤ) (n : ℕ) (ha : nat_abs a ≤ 1000) (hn : n ≤ 1000) (hc : nat_abs c ≤ 1000000000) where
   two : nat_abs (a *ℤ pos n) ≤ 1000000
-  two = rw abs_product (mul-le-mul ha hn)
+  two = rw unsigned_abs-mul (mul-le-mul ha hn)
 
   pub three : nat_abs (a *ℤ pos n *ℤ c) ≤ 1000000000000000
-  three = rw abs_product (mul-le-mul two hc)
+  three = rw unsigned_abs-mul (mul-le-mul two hc)
 
   computed : to_z w64 (of_z w64 (to_z w64 (of_z w64 a) *ℤ to_z w64 n)) *ℤ to_z w64 (of_z w64 c) ≡ a *ℤ pos n *ℤ c
   computed =

@@ -36,14 +36,13 @@ module _ (rule : Answers) (laws : Lawful rule) where
 
 module _ (rule : Answers) (ss : List Series) (ps : List ℤ) where
   -- one turn of the loop that sums, at series n
-  pub asks_more : (sum one next : ℕ × ℕ) (n v count : ℕ) (s : Series) (z : ℤ) → 1 ≤ n → v ≡ n → s ≡ get_or ss (v - 1) no_series → z ≡ get_or ps (v - 1) (pos 0) → count ≡ nat_abs z → sum ≡ asks rule ss ps (n - 1) → one ≡ part rule v s count → next ≡ both sum one → next ≡ asks rule ss ps (n + 1 - 1)
-  asks_more sum one next n v count s z low is row held size so_far asked more =
+  pub asks_more : (sum one next : ℕ × ℕ) (n v count : ℕ) (z : ℤ) → 1 ≤ n → v ≡ n → z ≡ get_or ps (v - 1) (pos 0) → count ≡ nat_abs z → sum ≡ asks rule ss ps (n - 1) → one ≡ part rule v (get_or ss (v - 1) no_series) count → next ≡ both sum one → next ≡ asks rule ss ps (n + 1 - 1)
+  asks_more sum one next n v count z low is held size so_far asked more =
       let up : v ≡ suc (n - 1) = omega arith in
       let at : v - 1 ≡ n - 1 = omega arith in
       let after : suc (n - 1) ≡ n + 1 - 1 = omega arith in
-      let row' = row ∙ ap (λ k. get_or ss k no_series) at in
       let held' = size ∙ ap nat_abs (held ∙ ap (λ k. get_or ps k (pos 0)) at) in
-      more ∙ (λ j. both (so_far j) (asked j)) ∙ (λ j. both (asks rule ss ps (n - 1)) (part rule (up j) (row' j) (held' j))) ∙ ap (asks rule ss ps) after
+      more ∙ (λ j. both (so_far j) (asked j)) ∙ (λ j. both (asks rule ss ps (n - 1)) (part rule (up j) (get_or ss (at j) no_series) (held' j))) ∙ ap (asks rule ss ps) after
 
   pub asks_all : (sum : ℕ × ℕ) (n : ℕ) → n ≡ 25 → sum ≡ asks rule ss ps (n - 1) → sum ≡ asks rule ss ps all_series
   unfolding all_series

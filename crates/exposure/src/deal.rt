@@ -33,13 +33,15 @@ impl Shares {
     }
 }
 
-// What a holder gains as the price moves.
+// What a holder gains as the price moves. That it is small is said here and of `gain`, and asked by `Shares::of`: a type
+// for it would be made and taken apart between the three.
 fn moved(position: Position, size: Ranged<0, 1_000>, by: i64) -> i64
     requires { unsigned_abs by ≤ 1000000000 }
     ensures value { result ≡ position.contracts *ℤ pos size.value *ℤ by }
     ensures turned { result ≡ by *ℤ pos size.value *ℤ position.contracts }
     ensures small { unsigned_abs result ≤ 1000000000000000 }
 {
+    // `as`, here and below: no `From` makes an `i64` of a `u64`, and the check proves that nothing is lost.
     position.get() * size.get() as i64 * by
 }
 
@@ -90,5 +92,5 @@ pub fn lacks(balance: i64, amount: i64, margin: u64) -> bool
     ensures { result ≡ lacks_margin (balance +ℤ amount) margin }
 {
     // Wide enough for any sum.
-    balance as i128 + (amount as i128) < margin as i128
+    i128::from(balance) + i128::from(amount) < i128::from(margin)
 }

@@ -5,7 +5,6 @@ ghost use Rattle.std.specs.Prelude.{◌≡◌, length};
 ghost use Rattle.figures.specs.Worked as Worked;
 ghost use Rattle.figures.specs.Worked.{Figures, worked};
 
-use anyhow::anyhow;
 use margin::flat::Flat;
 use margin::rule::MarginRule;
 use margin::share::Share;
@@ -105,23 +104,17 @@ fn main(rt: HostRuntime) -> anyhow::Result<()> {
     let count = figures_stand();
     println!(rt; "proved of the definitions: {count}")?;
     print_prices(&rt)?;
-    let Ok(tariff) = Tariff::new(5_000, 3_500) else {
-        return Err(anyhow!("no such tariff"));
-    };
     print_margins(
         &rt,
         "flat 5,000 and 3,500, 2 contracts",
-        &Flat::uniform(tariff),
+        &Flat::uniform(Tariff::new(5_000, 3_500)?),
         1_000,
         2,
     )?;
-    let Ok(share) = Share::new(1_250, 7_000) else {
-        return Err(anyhow!("no such share"));
-    };
     print_margins(
         &rt,
         "share 1,250 and 7,000, 3 contracts at 1,003",
-        &share,
+        &Share::new(1_250, 7_000)?,
         1_003,
         3,
     )?;

@@ -3,7 +3,7 @@
 
 use crate::rials::Rials;
 use crate::run::{BROKER, Run};
-use anyhow::anyhow;
+use anyhow::ensure;
 use book::{ACCOUNTS, Book, TableBook};
 use margin::flat::Flat;
 use margin::tariff::Tariff;
@@ -63,7 +63,7 @@ fn last_day(run: &mut Run<'_, '_>, rt: &HostRuntime) -> anyhow::Result<()> {
 }
 
 // The room lives no longer than this: afterwards the book can be read.
-fn live(rt: &HostRuntime, book: &mut TableBook, rule: &Flat) -> anyhow::Result<(i64, i64)> {
+fn live(rt: &HostRuntime, book: &mut TableBook, rule: &Flat) -> anyhow::Result<(i128, i128)> {
     let mut run = Run::begin(rt, book, rule)?;
     first_day(&mut run, rt)?;
     second_day(&mut run, rt)?;
@@ -75,29 +75,24 @@ fn live(rt: &HostRuntime, book: &mut TableBook, rule: &Flat) -> anyhow::Result<(
 }
 
 fn main(rt: HostRuntime) -> anyhow::Result<()> {
-    let Ok(tariff) = Tariff::new(5_000, 3_500) else {
-        return Err(anyhow!("no such tariff"));
-    };
+    let rule = Flat::uniform(Tariff::new(5_000, 3_500)?);
     println!(rt; "after each step the balances of customers 1, 2 and 3")?;
     let mut book = TableBook::new();
-    let (paid_in, paid_out) = live(&rt, &mut book, &Flat::uniform(tariff))?;
-    println!(rt;
-        "  broker {BROKER}: {}",
-        Rials::balance(book.balance(BROKER))
-    )?;
-    println!(rt; "  house: {}", Rials::balance(book.balance(ACCOUNTS)))?;
-    let mut total = 0i64;
-    for account in 1..=ACCOUNTS {
-        total = total.saturating_add(book.balance(account));
-    }
+    let (paid_in, paid_out) = live(&rt, &mut book, &rule)?;
+    println!(rt; "  broker {BROKER}: {}", Rials::of(book.balance(BROKER)))?;
+    println!(rt; "  house: {}", Rials::of(book.balance(ACCOUNTS)))?;
+    let total = (1..=ACCOUNTS)
+        .map(|account| i128::from(book.balance(account)))
+        .fold(0, i128::saturating_add);
     println!(rt;
         "  all balances: {} = {} deposited - {} withdrawn",
-        Rials::balance(total),
-        Rials::balance(paid_in),
-        Rials::balance(paid_out)
+        Rials::of(total),
+        Rials::of(paid_in),
+        Rials::of(paid_out)
     )?;
-    if total != paid_in.saturating_sub(paid_out) {
-        return Err(anyhow!("the balances are not what was paid in"));
-    }
+    ensure!(
+        total == paid_in.saturating_sub(paid_out),
+        "the balances are not what was paid in"
+    );
     Ok(())
 }

@@ -1,50 +1,30 @@
 //! Amounts as they are read: in groups of three digits.
 use std::fmt;
 
-/// An amount in rials, printed as 1,234,567.
+/// An amount in rials, or a debt, printed as 1,234,567.
 #[derive(Clone, Copy)]
-pub struct Rials {
-    negative: bool,
-    amount: u64,
-}
+pub struct Rials(i128);
 
 impl Rials {
-    pub fn of(amount: u64) -> Rials {
-        Rials {
-            negative: false,
-            amount,
-        }
+    pub fn of<N: Into<i128>>(amount: N) -> Rials {
+        Rials(amount.into())
     }
+}
 
-    /// A balance, which may be a debt.
-    pub fn balance(balance: i64) -> Rials {
-        Rials {
-            negative: balance < 0,
-            amount: balance.unsigned_abs(),
-        }
+fn write_groups<W: fmt::Write>(f: &mut fmt::Formatter<W>, amount: u128) -> fmt::Result {
+    if amount < 1_000 {
+        return write!(f, "{amount}");
     }
+    write_groups(f, amount / 1_000)?;
+    let group = amount % 1_000;
+    write!(f, ",{group:03}")
 }
 
 impl fmt::Display for Rials {
     fn fmt<W: fmt::Write>(&self, f: &mut fmt::Formatter<W>) -> fmt::Result {
-        if self.negative {
-            write!(f, "-")?;
+        if self.0 < 0 {
+            f.write_str("-")?;
         }
-        let mut begun = false;
-        let mut unit = 1_000_000_000_000_000_000u64;
-        for _ in 0..7u8 {
-            if unit == 0 {
-                break;
-            }
-            let group = self.amount / unit % 1_000;
-            if begun {
-                write!(f, ",{group:03}")?;
-            } else if group > 0 || unit == 1 {
-                write!(f, "{group}")?;
-                begun = true;
-            }
-            unit /= 1_000;
-        }
-        Ok(())
+        write_groups(f, self.0.unsigned_abs())
     }
 }

@@ -1,10 +1,11 @@
 //! A run of the room: each step is made, noted in the ledger, and printed with the balances after it.
-use crate::ledger::{FEE, Ledger, SIZE};
+use crate::ledger::{Deal, FEE, Kind, Ledger, SIZE};
 use crate::rials::Rials;
-use anyhow::anyhow;
+use anyhow::ensure;
 use book::{Book, TableBook};
 use clearing::Room;
 use margin::flat::Flat;
+use std::cmp::Ordering;
 use std::io;
 use terms::call::Answer;
 use terms::fault::Fault;
@@ -26,28 +27,18 @@ const FIRST_PRICE: u64 = 1_000;
 /// A room over a table book and the flat rule, and the ledger beside it.
 #[derive(Drop)]
 pub struct Run<'b, 'r> {
-    room: Room<'b, 'r, 0, TableBook, Flat>,
+    room: Room<'b, 'r, TableBook, Flat>,
     ledger: Ledger,
 }
 
-// In this run every call is to be accepted.
-fn accepted(answer: Result<Answer, Fault>) -> anyhow::Result<Answer> {
-    match answer {
-        Ok(answer) => Ok(answer),
-        Err(_) => Err(anyhow!("a call was refused")),
-    }
-}
-
 // A part of a balance, unless it is 0.
-fn print_part(rt: &HostRuntime, amount: i64, what: &str) -> io::Result<()> {
-    let size = Rials::of(amount.unsigned_abs());
-    if amount > 0 {
-        print!(rt; " + {size} {what}")?;
+fn print_part(rt: &HostRuntime, amount: i128, what: &str) -> io::Result<()> {
+    let size = Rials::of(amount.saturating_abs());
+    match amount.cmp(&0) {
+        Ordering::Greater => print!(rt; " + {size} {what}"),
+        Ordering::Less => print!(rt; " - {size} {what}"),
+        Ordering::Equal => Ok(()),
     }
-    if amount < 0 {
-        print!(rt; " - {size} {what}")?;
-    }
-    Ok(())
 }
 
 impl<'b, 'r> Run<'b, 'r> {
@@ -58,38 +49,28 @@ impl<'b, 'r> Run<'b, 'r> {
         rule: &'r Flat,
     ) -> anyhow::Result<Run<'b, 'r>> {
         let mut room = Room::new(book, rule);
-        let _ = accepted(room.begin())?;
+        room.begin()?;
         println!(rt; "begin")?;
         for customer in 1..=CUSTOMERS {
-            let _ = accepted(room.enrol(customer, BROKER))?;
+            room.enrol(customer, BROKER)?;
             println!(rt; "enrol customer {customer} under broker {BROKER}")?;
         }
-        let _ = accepted(room.list(SIZE, MOST, SERIES, FIRST_PRICE, FEE))?;
+        room.list(SIZE, MOST, SERIES, FIRST_PRICE, FEE)?;
         let price = Rials::of(FIRST_PRICE);
         println!(rt; "list series {SERIES}: size {SIZE}, limit {MOST}, price {price}, fee {FEE}")?;
         let ledger = Ledger::new(rt.alloc(), FIRST_PRICE);
         Ok(Run { room, ledger })
     }
 
-    fn balance(&self, customer: u32) -> anyhow::Result<i64> {
-        match self.room.standing(customer) {
-            Ok(standing) => Ok(standing.balance),
-            Err(_) => Err(anyhow!("no such customer")),
-        }
-    }
-
-    fn position(&self, customer: u32) -> anyhow::Result<i64> {
-        match self.room.position(customer, SERIES) {
-            Ok(position) => Ok(position),
-            Err(_) => Err(anyhow!("no such customer")),
-        }
+    fn balance(&self, customer: u32) -> Result<i64, Fault> {
+        Ok(self.room.standing(customer)?.balance)
     }
 
     // Ends the line of a step with the balances after it.
     fn print_balances(&self, rt: &HostRuntime) -> anyhow::Result<()> {
         print!(rt; ": balances")?;
         for customer in 1..=CUSTOMERS {
-            print!(rt; "  {}", Rials::balance(self.balance(customer)?))?;
+            print!(rt; "  {}", Rials::of(self.balance(customer)?))?;
         }
         println!(rt)?;
         Ok(())
@@ -99,7 +80,7 @@ impl<'b, 'r> Run<'b, 'r> {
     pub fn print_positions(&self, rt: &HostRuntime) -> anyhow::Result<()> {
         print!(rt; "  positions")?;
         for customer in 1..=CUSTOMERS {
-            let position = self.position(customer)?;
+            let position = self.room.position(customer, SERIES)?;
             print!(rt; "  {position}")?;
         }
         println!(rt)?;
@@ -111,16 +92,17 @@ impl<'b, 'r> Run<'b, 'r> {
         for customer in 1..=CUSTOMERS {
             let balance = self.balance(customer)?;
             let parts = self.ledger.parts(customer);
-            if parts.balance() != balance {
-                return Err(anyhow!("a balance is not what it is made of"));
-            }
+            ensure!(
+                parts.balance() == i128::from(balance),
+                "a balance is not what it is made of"
+            );
             print!(rt;
                 "  customer {customer}: balance {} = {} deposited",
-                Rials::balance(balance),
-                Rials::balance(parts.deposited)
+                Rials::of(balance),
+                Rials::of(parts.deposited)
             )?;
-            print_part(rt, 0i64.saturating_sub(parts.withdrawn), "withdrawn")?;
-            print_part(rt, 0i64.saturating_sub(parts.fees), "fees")?;
+            print_part(rt, parts.withdrawn.saturating_neg(), "withdrawn")?;
+            print_part(rt, parts.fees.saturating_neg(), "fees")?;
             print_part(rt, parts.cover, "cover")?;
             print_part(rt, parts.gains, "gains")?;
             println!(rt)?;
@@ -129,13 +111,16 @@ impl<'b, 'r> Run<'b, 'r> {
     }
 
     /// All that was paid in, and all that was paid out.
-    pub fn paid_in_and_out(&self) -> (i64, i64) {
-        self.ledger.paid_in_and_out()
+    pub fn paid_in_and_out(&self) -> (i128, i128) {
+        (
+            self.ledger.paid(Kind::Deposit, None),
+            self.ledger.paid(Kind::Withdrawal, None),
+        )
     }
 
     pub fn deposit(&mut self, rt: &HostRuntime, account: u32, amount: u64) -> anyhow::Result<()> {
-        let lifted = accepted(self.room.deposit(account, amount))?.lifted;
-        self.ledger.deposit(account, amount)?;
+        let lifted = self.room.deposit(account, amount)?.lifted;
+        self.ledger.pay(Kind::Deposit, account, amount)?;
         print!(rt; "deposit {} to account {account}", Rials::of(amount))?;
         if lifted > 0 {
             print!(rt; ", lifted {lifted}")?;
@@ -144,8 +129,8 @@ impl<'b, 'r> Run<'b, 'r> {
     }
 
     pub fn withdraw(&mut self, rt: &HostRuntime, account: u32, amount: u64) -> anyhow::Result<()> {
-        let _ = accepted(self.room.withdraw(account, amount))?;
-        self.ledger.withdraw(account, amount)?;
+        self.room.withdraw(account, amount)?;
+        self.ledger.pay(Kind::Withdrawal, account, amount)?;
         print!(rt; "withdraw {} from account {account}", Rials::of(amount))?;
         self.print_balances(rt)
     }
@@ -158,27 +143,33 @@ impl<'b, 'r> Run<'b, 'r> {
         count: u64,
         price: u64,
     ) -> anyhow::Result<()> {
-        let _ = accepted(self.room.trade(buyer, seller, SERIES, count, price))?;
-        self.ledger.deal(buyer, seller, count, price)?;
+        self.room.trade(buyer, seller, SERIES, count, price)?;
+        self.ledger.deal(Deal {
+            buyer,
+            seller,
+            count,
+            price,
+        })?;
         print!(rt; "{buyer} buys {count} of {seller} at {}", Rials::of(price))?;
         self.print_balances(rt)
     }
 
+    // Two methods: one that is handed the call would take a deposit too, which the ledger has to note.
     pub fn late(&mut self, rt: &HostRuntime) -> anyhow::Result<()> {
-        let _ = accepted(self.room.late())?;
+        self.room.late()?;
         print!(rt; "late")?;
         self.print_balances(rt)
     }
 
     pub fn shut(&mut self, rt: &HostRuntime) -> anyhow::Result<()> {
-        let _ = accepted(self.room.shut())?;
+        self.room.shut()?;
         print!(rt; "shut")?;
         self.print_balances(rt)
     }
 
     /// Marks the series to market, and shows what the balances are made of then.
     pub fn mark(&mut self, rt: &HostRuntime, price: u64) -> anyhow::Result<()> {
-        let _ = accepted(self.room.mark(SERIES, price))?;
+        self.room.mark(SERIES, price)?;
         self.ledger.stand(price);
         print!(rt; "mark at {}", Rials::of(price))?;
         self.print_balances(rt)?;
@@ -187,7 +178,7 @@ impl<'b, 'r> Run<'b, 'r> {
 
     /// Marks the series for the last time and ends it: nobody has a position after it.
     pub fn end(&mut self, rt: &HostRuntime, price: u64) -> anyhow::Result<()> {
-        let _ = accepted(self.room.end(SERIES, price))?;
+        self.room.end(SERIES, price)?;
         self.ledger.stand(price);
         print!(rt; "final at {}", Rials::of(price))?;
         self.print_balances(rt)?;
@@ -203,16 +194,20 @@ impl<'b, 'r> Run<'b, 'r> {
         offer: u64,
         price: u64,
     ) -> anyhow::Result<()> {
-        let sells = self.position(customer)? > 0;
-        let answer = self
-            .room
-            .force(customer, counterparty, SERIES, offer, price);
-        let Answer { figure, lifted } = accepted(answer)?;
-        if sells {
-            self.ledger.deal(counterparty, customer, figure, price)?;
+        let (buyer, seller) = if self.room.position(customer, SERIES)? > 0 {
+            (counterparty, customer)
         } else {
-            self.ledger.deal(customer, counterparty, figure, price)?;
-        }
+            (customer, counterparty)
+        };
+        let Answer { figure, lifted } = self
+            .room
+            .force(customer, counterparty, SERIES, offer, price)?;
+        self.ledger.deal(Deal {
+            buyer,
+            seller,
+            count: figure,
+            price,
+        })?;
         print!(rt;
             "force on {customer}, against {counterparty}, offer {offer} at {}, closed {figure}, lifted {lifted}",
             Rials::of(price)
@@ -221,14 +216,14 @@ impl<'b, 'r> Run<'b, 'r> {
     }
 
     pub fn cover(&mut self, rt: &HostRuntime, customer: u32) -> anyhow::Result<()> {
-        let amount = accepted(self.room.cover(customer))?.figure;
-        self.ledger.cover(customer, amount)?;
+        let amount = self.room.cover(customer)?.figure;
+        self.ledger.pay(Kind::Cover, customer, amount)?;
         print!(rt; "cover of customer {customer}, {} paid", Rials::of(amount))?;
         self.print_balances(rt)
     }
 
     pub fn notices(&mut self, rt: &HostRuntime) -> anyhow::Result<()> {
-        let called = accepted(self.room.notices())?.figure;
+        let called = self.room.notices()?.figure;
         print!(rt; "notices, called {called}")?;
         self.print_balances(rt)
     }

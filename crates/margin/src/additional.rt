@@ -6,7 +6,7 @@ ghost use Rattle.margin.specs.Rules.{additional_rule};
 ghost use Rattle.margin.specs.Settings.{setting};
 ghost use Rattle.margin.specs.Kept.{additional_lawful};
 
-use crate::question::is_askable;
+use crate::question::Question;
 use crate::rule::{MOST, MarginRule};
 use terms::fault::Fault;
 use terms::ranges::Ranged;
@@ -30,7 +30,7 @@ impl<R: MarginRule> Additional<R> {
     {
         Additional {
             rule,
-            extra: Extra::new(0).unwrap(),
+            extra: Extra::nought(),
         }
     }
 
@@ -41,7 +41,7 @@ impl<R: MarginRule> Additional<R> {
         ensures rule { self.new.rule ≡ self.old.rule }
         ensures same { is_ok result ≡ false → self.new ≡ self.old }
     {
-        self.extra = Extra::new(extra).ok_or(Fault::OutOfRange)?;
+        self.extra = Extra::try_from(extra)?;
         Ok(())
     }
 }
@@ -55,10 +55,10 @@ impl<R: MarginRule> MarginRule for Additional<R> {
         ensures answer { result ≡ additional_rule self.now.extra.value (R.MarginRule.asked self.now.rule) series size price count }
         ensures more { AtLeast (R.MarginRule.asked self.now.rule series size price count) result }
     {
-        if !is_askable(series, size, price, count) {
+        let Some(question) = Question::new(series, size, price, count) else {
             return (0, 0);
-        }
-        let more = self.extra.get() * count;
+        };
+        let more = self.extra.get() * question.count.get();
         let (initial, minimum) = self.rule.margins(series, size, price, count);
         (
             initial.saturating_add(more).min(MOST),

@@ -4,10 +4,11 @@ ghost use Rattle.margin.specs.Question.{within};
 ghost use Rattle.margin.specs.Settings.{setting};
 ghost use Rattle.margin.specs.Flats.{table, flat_asks, flat_keeps, with_tariff, alike};
 
-use crate::question::is_askable;
+use crate::question::Question;
 use crate::rule::MarginRule;
 use crate::tariff::Tariff;
 use terms::fault::Fault;
+use terms::ranges::SeriesNumber;
 
 /// A tariff for each series.
 #[derive(Clone, Copy)]
@@ -37,10 +38,8 @@ impl Flat {
         ensures answer { result ≡ setting (within 1 24 series) tt }
         ensures after { self.new ≡ (if is_ok result then with_tariff self.old series tariff else self.old) }
     {
-        if series < 1 || series > 24 {
-            return Err(Fault::OutOfRange);
-        }
-        self.tariffs[series as usize - 1] = tariff;
+        let number = SeriesNumber::try_from(u64::from(series))?;
+        self.tariffs[number.index()] = tariff;
         Ok(())
     }
 }
@@ -51,10 +50,10 @@ impl MarginRule for Flat {
     ghost laws = { flat_keeps };
 
     fn margins(&self, series: u32, size: u64, price: u64, count: u64) -> (u64, u64) {
-        if !is_askable(series, size, price, count) {
+        let Some(Question { series, count, .. }) = Question::new(series, size, price, count) else {
             return (0, 0);
-        }
-        let tariff = self.tariffs[series as usize - 1];
-        (tariff.initial * count, tariff.minimum * count)
+        };
+        let tariff = self.tariffs[series.index()];
+        (tariff.initial * count.get(), tariff.minimum * count.get())
     }
 }

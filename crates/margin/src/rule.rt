@@ -13,6 +13,7 @@ pub trait MarginRule {
     // What each rule must prove of its answers.
     ghost laws: { (rule : Self) → Lawful (asked rule) };
 
+    // Four numbers, as the clearing hands them over: each rule makes a `Question` of them, if they are in range.
     /// The initial and the minimum margin of so many contracts of a series of this size at this price.
     fn margins(&self, series: u32, size: u64, price: u64, count: u64) -> (u64, u64)
         ensures { result ≡ asked self.now series size price count };

@@ -6,7 +6,7 @@ ghost use Rattle.margin.specs.Rules.{portion as portion_of, share_rule};
 ghost use Rattle.margin.specs.Settings.{numbers_of, setting};
 ghost use Rattle.margin.specs.Kept.{share_lawful};
 
-use crate::question::is_askable;
+use crate::question::Question;
 use crate::rule::MarginRule;
 use terms::fault::Fault;
 use terms::ranges::Ranged;
@@ -26,9 +26,10 @@ impl Share {
     pub fn new(rate: u64, part: u64) -> Result<Share, Fault>
         ensures { numbers_of (λ s. (s.rate.value, s.part.value)) result ≡ setting (within 1 10000 rate && within 1 10000 part) (rate, part) }
     {
-        let rate = Parts::new(rate).ok_or(Fault::OutOfRange)?;
-        let part = Parts::new(part).ok_or(Fault::OutOfRange)?;
-        Ok(Share { rate, part })
+        Ok(Share {
+            rate: Parts::try_from(rate)?,
+            part: Parts::try_from(part)?,
+        })
     }
 
     /// Sets both numbers anew, each from 1 to 10,000.
@@ -58,10 +59,10 @@ impl MarginRule for Share {
     ghost laws = { λ s. share_lawful _ _ s.rate.high s.part.high };
 
     fn margins(&self, series: u32, size: u64, price: u64, count: u64) -> (u64, u64) {
-        if !is_askable(series, size, price, count) {
+        let Some(question) = Question::new(series, size, price, count) else {
             return (0, 0);
-        }
-        let initial = portion(price * size * count, self.rate);
+        };
+        let initial = portion(question.value(), self.rate);
         (initial, portion(initial, self.part))
     }
 }

@@ -14,6 +14,7 @@ pub struct Tariff {
 }
 
 impl Tariff {
+    // No `Default`: none can be derived beside a stated fact, and by hand it would only say this again.
     /// The tariff that asks nothing.
     pub const NOUGHT: Tariff = Tariff {
         initial: 0,
@@ -24,7 +25,7 @@ impl Tariff {
     pub fn new(initial: u64, minimum: u64) -> Result<Tariff, Fault>
         ensures { numbers_of (λ t. (t.initial, t.minimum)) result ≡ setting (nat_le initial 1000000000000 && nat_le minimum initial) (initial, minimum) }
     {
-        if initial <= 1_000_000_000_000 && minimum <= initial {
+        if (minimum..=1_000_000_000_000).contains(&initial) {
             Ok(Tariff { initial, minimum })
         } else {
             Err(Fault::OutOfRange)

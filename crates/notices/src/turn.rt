@@ -3,7 +3,8 @@ ghost use Rattle.std.specs.Prelude.{◌≡◌};
 ghost use Rattle.notices.specs.Turns.{turns_to};
 
 /// Customers below their minimum margin are called; customers under notice that have their initial margin are lifted.
-#[derive(Clone, Copy)]
+// No closure in its place: whoever takes one has to require that it may be called.
+#[derive(Clone, Copy, PartialEq, Eq, Debug)]
 pub enum Turn {
     Call,
     Lift,
@@ -14,9 +15,6 @@ impl Turn {
     pub fn notice(self) -> bool
         ensures { result ≡ turns_to self }
     {
-        match self {
-            Turn::Call => true,
-            Turn::Lift => false,
-        }
+        matches!(self, Turn::Call)
     }
 }

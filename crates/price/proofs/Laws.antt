@@ -9,7 +9,7 @@ use Rattle.price.specs.declared.day.Trade.{Trade}
 use Rattle.price.specs.declared.day.Session.{Session}
 use Rattle.price.specs.declared.day.Settlement.{Settlement}
 use Rattle.price.specs.declared.day.Rule.TheVariants.{LastHalfHour, LastHour, WholeDay, Quotations, Committee}
-use Rattle.price.specs.declared.tally.Sums.{Sums}
+use Rattle.price.specs.declared.sums.Sums.{Sums}
 use Rattle.price.specs.Means.{nearest, mean}
 use Rattle.price.specs.Letters.{letter_of}
 use Rattle.price.specs.Prices.{session_fits, volume, value, mean_of, by_rule, or_else, first_of, all_rules, quoted, without_trades, is_second, is_price, is_count, trade_fits, first_unfit, refused_at, found, unless_refused, settlement, told}
@@ -20,7 +20,7 @@ use Rattle.price.proofs.Orders.{any_order, all_fit}
 use Rattle.price.proofs.Rules.{none_some, gives, given_by, same_rule, Searched, searched}
 
 ok_err : {T E Y : Type 0} {x : T} {y : E} → Ok x ≡ Err y → Y
-ok_err {x = x} {y = y} e = let z : ◌≡◌ {A = ℕ} 0 1 = cc in absurd (omega arith)
+ok_err e = cc
 
 -- an answer came of the rules, and nothing was refused
 settled_ok : (o : Option ℕ) (x : Option (ℕ × ℕ)) (y : ℕ × ℕ) → Ok y ≡ unless_refused o (found x) → x ≡ Some y

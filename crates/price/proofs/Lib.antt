@@ -1,5 +1,5 @@
 pub mod Between
-pub mod Fits
+pub mod Found
 pub mod Laws
 pub mod Means
 pub mod Orders

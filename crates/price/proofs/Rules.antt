@@ -13,7 +13,7 @@ use Rattle.price.specs.Rules.{MeanOf, Enough, Quoted, Gives}
 use Rattle.price.proofs.Means.{mean_nearest, nearest_only}
 
 pub none_some : {X Y : Type 0} {x : X} → None ≡ Some x → Y
-none_some {x = x} e = let z : ◌≡◌ {A = ℕ} 0 1 = cc in absurd (omega arith)
+none_some e = cc
 
 -- a price under a test
 some_if : (b : Bool) (o : Option ℕ) (p : ℕ) → cond b o None ≡ Some p → (b ≡ true) × (o ≡ Some p)

@@ -6,7 +6,7 @@ use Rattle.std.proofs.lemmas.List.Sums.{sum_by-append, sum_by_more}
 use Rattle.price.specs.declared.day.Trade.{Trade}
 use Rattle.price.specs.declared.sums.Sum.{Sum}
 use Rattle.price.specs.declared.sums.Deal.{Deal}
-use Rattle.price.specs.declared.tally.Sums.{Sums}
+use Rattle.price.specs.declared.sums.Sums.{Sums}
 use Rattle.price.specs.Prices.{is_recent, recent, trade_fits, first_unfit}
 use Rattle.price.specs.Tally.{SumOf, SumsOf, Wider, Grown}
 

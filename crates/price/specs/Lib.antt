@@ -3,3 +3,4 @@ pub mod Means
 pub mod Prices
 pub mod Rules
 pub mod Tally
+pub mod Words

@@ -10,7 +10,8 @@ use Rattle.price.specs.declared.day.Rule.{Rule}
 use Rattle.price.specs.declared.day.Rule.TheVariants.{LastHalfHour, LastHour, WholeDay, Quotations, Committee}
 use Rattle.price.specs.declared.sums.Sum.{Sum}
 use Rattle.price.specs.declared.sums.Deal.{Deal}
-use Rattle.price.specs.declared.tally.Sums.{Sums}
+use Rattle.price.specs.declared.settlement.CheckedSession.{CheckedSession}
+use Rattle.price.specs.declared.sums.Sums.{Sums}
 use Rattle.price.specs.Means.{mean}
 use Rattle.price.specs.Letters.{letter_of}
 use Rattle.price.specs.Prices.{volume, value, recent, quoted, first_unfit}
@@ -37,6 +38,17 @@ Grown s d r =
 abbrev pub Tallied : ℕ → List Trade → Result Sums Fault → Type 0
 Tallied last ts (Ok s) = (first_unfit last 1 ts ≡ None) × SumsOf last ts s
 Tallied last ts (Err f) = option_map PriceInput (first_unfit last 1 ts) ≡ Some f
+
+-- the session that was handed in
+abbrev pub raw : CheckedSession → Session
+raw s =
+    record {
+      last = s.last.value;
+      band = s.band;
+      bid = option_map (λ p. p.value) s.bid;
+      ask = option_map (λ p. p.value) s.ask;
+      committee = option_map (λ p. p.value) s.committee;
+    }
 
 -- what each rule gives, by the sums of the trades
 abbrev pub fifth_of : Sum → Sum → Option ℕ

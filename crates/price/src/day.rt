@@ -1,7 +1,9 @@
 //! What a day hands in, as raw numbers, and what comes of it.
-ghost use Rattle.std.specs.Prelude.{◌≡◌};
+ghost use Rattle.std.specs.Prelude.{◌≡◌, Some};
 ghost use Rattle.price.specs.Letters.{letter_of};
+ghost use Rattle.price.specs.Words.{rule_words, settlement_words};
 
+use std::fmt;
 use terms::ranges::Price;
 
 /// A trade: the second of the day at which it was made, its price and its contracts.
@@ -59,9 +61,34 @@ impl Rule {
     }
 }
 
+impl fmt::Display for Rule {
+    ghost output = { λ rule. Some (rule_words rule) };
+
+    fn fmt<W: fmt::Write>(&self, f: &mut fmt::Formatter<W>) -> fmt::Result {
+        f.write_str(match self {
+            Rule::LastHalfHour => "the mean of the last half hour",
+            Rule::LastHour => "the mean of the last hour",
+            Rule::WholeDay => "the mean of the day",
+            Rule::Quotations => "the mean of best bid and best ask",
+            Rule::Committee => "the committee's price",
+        })
+    }
+}
+
 /// A settlement price, and the rule that gave it.
 #[derive(Clone, Copy, PartialEq, Eq, Debug)]
 pub struct Settlement {
     pub price: Price,
     pub rule: Rule,
+}
+
+impl fmt::Display for Settlement {
+    ghost output = { λ settlement. Some (settlement_words settlement) };
+
+    fn fmt<W: fmt::Write>(&self, f: &mut fmt::Formatter<W>) -> fmt::Result {
+        let price = self.price.get();
+        let rule = self.rule;
+        let letter = rule.letter();
+        write!(f, "settlement price: {price}, by rule {letter}, {rule}")
+    }
 }

@@ -16,17 +16,10 @@ mod tests {
     use terms::fault::Fault;
 
     // A price with its letter, or a refusal's number and place.
-    #[derive(Clone, Copy, PartialEq, Eq, Debug)]
-    enum Told {
-        Priced(u64, char),
-        Refused(u32, u32),
-    }
-
-    fn tell(answer: Result<Settlement, Fault>) -> Told {
-        match answer {
-            Ok(settlement) => Told::Priced(settlement.price.get(), settlement.rule.letter()),
-            Err(fault) => Told::Refused(fault.number(), fault.place()),
-        }
+    fn tell(answer: Result<Settlement, Fault>) -> Result<(u64, char), (u32, u32)> {
+        answer
+            .map(|settlement| (settlement.price.get(), settlement.rule.letter()))
+            .map_err(|fault| (fault.number(), fault.place()))
     }
 
     fn at(second: u64, price: u64, count: u64) -> Trade {
@@ -57,25 +50,25 @@ mod tests {
         let half_hour = [at(41_400, 1_000, 2), at(0, 990, 8)];
         assert_eq!(rt;
             tell(settlement_price(&half_hour, &session)),
-            Told::Priced(1_000, 'a'),
+            Ok((1_000, 'a')),
             "1,800 seconds, exactly a fifth"
         );
         let a_second_more = [at(41_399, 1_000, 2), at(0, 990, 8)];
         assert_eq!(rt;
             tell(settlement_price(&a_second_more, &session)),
-            Told::Priced(1_000, 'b'),
+            Ok((1_000, 'b')),
             "1,801 seconds"
         );
         let hour = [at(39_600, 1_000, 2), at(0, 990, 8)];
         assert_eq!(rt;
             tell(settlement_price(&hour, &session)),
-            Told::Priced(1_000, 'b'),
+            Ok((1_000, 'b')),
             "3,600 seconds"
         );
         let too_thin = [at(43_200, 1_000, 2), at(0, 990, 9)];
         assert_eq!(rt;
             tell(settlement_price(&too_thin, &session)),
-            Told::Priced(992, 'c'),
+            Ok((992, 'c')),
             "less than a fifth"
         );
     }
@@ -86,13 +79,13 @@ mod tests {
         let up = [at(43_200, 1_000, 1), at(43_200, 1_001, 1)];
         assert_eq!(rt;
             tell(settlement_price(&up, &session)),
-            Told::Priced(1_001, 'a'),
+            Ok((1_001, 'a')),
             "half a rial"
         );
         let down = [at(43_200, 1_000, 2), at(43_200, 1_001, 1)];
         assert_eq!(rt;
             tell(settlement_price(&down, &session)),
-            Told::Priced(1_000, 'a'),
+            Ok((1_000, 'a')),
             "a third of a rial"
         );
     }
@@ -102,21 +95,17 @@ mod tests {
         let inside = noon(Some(900), Some(1_100), Some(7));
         assert_eq!(rt;
             tell(settlement_price(&[], &inside)),
-            Told::Priced(1_000, 'd'),
+            Ok((1_000, 'd')),
             "on the edges of the band"
         );
         let outside = noon(Some(899), Some(1_100), Some(7));
         assert_eq!(rt;
             tell(settlement_price(&[], &outside)),
-            Told::Priced(7, 'e'),
+            Ok((7, 'e')),
             "bid below the band"
         );
         let alone = noon(None, Some(1_000), None);
-        assert_eq!(rt;
-            tell(settlement_price(&[], &alone)),
-            Told::Refused(9, 0),
-            "no bid"
-        );
+        assert_eq!(rt; tell(settlement_price(&[], &alone)), Err((9, 0)), "no bid");
     }
 
     #[test]
@@ -125,25 +114,25 @@ mod tests {
         let late = [at(43_200, 1_000, 1), at(43_201, 1_000, 1), at(0, 0, 1)];
         assert_eq!(rt;
             tell(settlement_price(&late, &session)),
-            Told::Refused(8, 2),
+            Err((8, 2)),
             "after the last second"
         );
         let no_committee = noon(None, None, Some(0));
         assert_eq!(rt;
             tell(settlement_price(&late, &no_committee)),
-            Told::Refused(8, 0),
+            Err((8, 0)),
             "outside the trades first"
         );
         let most = vec![in rt.alloc(); at(43_200, 1_000_000_000, 1_000); 4_096]?;
         assert_eq!(rt;
             tell(settlement_price(most.as_slice(), &session)),
-            Told::Priced(1_000_000_000, 'a'),
+            Ok((1_000_000_000, 'a')),
             "4,096 trades"
         );
         let too_many = vec![in rt.alloc(); at(43_200, 1_000_000_000, 1_000); 4_097]?;
         assert_eq!(rt;
             tell(settlement_price(too_many.as_slice(), &session)),
-            Told::Refused(8, 0),
+            Err((8, 0)),
             "4,097 trades"
         );
         Ok(())

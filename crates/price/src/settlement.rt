@@ -1,115 +1,114 @@
 //! The rules of the settlement price, in the order in which they are tried.
-ghost use Rattle.std.specs.Prelude.{◌≡◌, true, ◌&&◌, length, nat_le};
+ghost use Rattle.std.specs.Prelude.{◌≡◌, true, false, length, nat_lt, MatchResult};
 ghost use Rattle.std.specs.Option.{option_map};
 ghost use Rattle.price.specs.Prices.{banded, quoted, price_if_any, session_fits, first_of, all_rules, settlement, told};
 ghost use Rattle.price.specs.Rules.{Stands};
-ghost use Rattle.price.specs.Tally.{by_sums, shown};
+ghost use Rattle.price.specs.Tally.{by_sums, raw, shown};
 
 use crate::day::{Band, Rule, Session, Settlement, Trade};
-use crate::sums::Sum;
-use crate::tally::{Sums, tally};
+use crate::sums::{Sum, Sums};
+use crate::tally::tally;
 use terms::fault::Fault;
 use terms::ranges::{Price, Second};
 
 /// The most trades that a day hands in.
 const MOST_TRADES: usize = 4_096;
 
-fn price_if_any(price: Option<u64>) -> bool
-    ensures { result ≡ price_if_any price }
+/// A session whose second and prices are in range by their type. Its band was found in range, and does not run backward.
+#[derive(Clone, Copy)]
+pub(crate) struct CheckedSession {
+    pub last: Second,
+    pub band: Band,
+    pub bid: Option<Price>,
+    pub ask: Option<Price>,
+    pub committee: Option<Price>,
+}
+
+fn too_many(trades: &[Trade]) -> bool
+    ensures { result ≡ nat_lt 4096 (length trades.now) }
 {
-    match price {
-        Some(rials) => Price::new(rials).is_some(),
-        None => true,
-    }
+    trades.len() > MOST_TRADES
 }
 
 impl Band {
     /// A quotation, if there is one and it lies in the band.
-    fn holding(&self, quotation: Option<u64>) -> Option<Price>
-        requires { price_if_any quotation ≡ true }
-        ensures { option_map (λ p. p.value) result ≡ banded self.now quotation }
+    fn holding(&self, quotation: Option<Price>) -> Option<Price>
+        ensures { option_map (λ p. p.value) result ≡ banded self.now (option_map (λ p. p.value) quotation) }
     {
-        let rials = quotation?;
-        if rials < self.low || rials > self.high {
-            return None;
-        }
-        Price::new(rials)
+        quotation.filter(|price| (self.low..=self.high).contains(&price.get()))
     }
 }
 
-impl Session {
-    /// Whether each number is in its range, and the band does not run backward.
-    fn fits(&self) -> bool
-        ensures { result ≡ session_fits self.now }
-    {
-        Second::new(self.last).is_some()
-            && Price::new(self.band.low).is_some()
-            && Price::new(self.band.high).is_some()
-            && self.band.low <= self.band.high
-            && price_if_any(self.bid)
-            && price_if_any(self.ask)
-            && price_if_any(self.committee)
-    }
+/// A price that may be missing, as one in its range; a fault where it is out of range.
+fn price_if_any(rials: Option<u64>) -> Result<Option<Price>, Fault>
+    ensures { MatchResult result (λ p. (price_if_any rials ≡ true) × (option_map (λ p. p.value) p ≡ rials)) (λ _. price_if_any rials ≡ false) }
+{
+    rials.map(Price::try_from).transpose()
+}
 
+impl Session {
+    /// The session in types that know their ranges; a fault where a number is out of range or the band runs backward.
+    fn checked(&self) -> Result<CheckedSession, Fault>
+        ensures { MatchResult result (λ s. (session_fits self.now ≡ true) × (raw s ≡ self.now)) (λ _. session_fits self.now ≡ false) }
+    {
+        let low = Price::try_from(self.band.low)?;
+        let high = Price::try_from(self.band.high)?;
+        if low > high {
+            return Err(Fault::OutOfRange);
+        }
+        Ok(CheckedSession {
+            last: Second::try_from(self.last)?,
+            band: self.band,
+            bid: price_if_any(self.bid)?,
+            ask: price_if_any(self.ask)?,
+            committee: price_if_any(self.committee)?,
+        })
+    }
+}
+
+impl CheckedSession {
     /// The mean of best bid and best ask, if both are there and in the band.
     fn quotation(&self) -> Option<Price>
-        requires { session_fits self.now ≡ true }
-        ensures { option_map (λ p. p.value) result ≡ quoted self.now }
+        ensures { option_map (λ p. p.value) result ≡ quoted (raw self.now) }
     {
         let bid = self.band.holding(self.bid)?;
         let ask = self.band.holding(self.ask)?;
         Sum::pair(bid, ask).mean()
     }
-
-    /// The committee's price, if there is one.
-    fn set_price(&self) -> Option<Price>
-        requires { session_fits self.now ≡ true }
-        ensures { option_map (λ p. p.value) result ≡ self.now.committee }
-    {
-        Price::new(self.committee?)
-    }
 }
 
-/// Whether the numbers outside the trades are in range, and the trades are not too many.
-fn fits_but_for_trades(trades: &[Trade], session: &Session) -> bool
-    ensures { result ≡ (session_fits session.now && nat_le (length trades.now) 4096) }
-{
-    session.fits() && trades.len() <= MOST_TRADES
+impl Rule {
+    /// All rules, in the order in which they are tried.
+    const ALL: [Rule; 5] = [
+        Rule::LastHalfHour,
+        Rule::LastHour,
+        Rule::WholeDay,
+        Rule::Quotations,
+        Rule::Committee,
+    ];
+
+    /// The price that this rule gives, if it applies. Quotations need not ask for trades: with trades the day has a mean,
+    /// and that is tried first.
+    fn price(self, sums: &Sums, session: &CheckedSession) -> Option<Price>
+        ensures { option_map (λ p. p.value) result ≡ by_sums (raw session.now) sums.now self }
+    {
+        match self {
+            Rule::LastHalfHour => sums.half.mean_of_fifth(sums.day),
+            Rule::LastHour => sums.hour.mean_of_fifth(sums.day),
+            Rule::WholeDay => sums.day.mean(),
+            Rule::Quotations => session.quotation(),
+            Rule::Committee => session.committee,
+        }
+    }
 }
 
 /// The price of the first rule that applies.
-fn first_that_applies(sums: &Sums, session: &Session) -> Option<Settlement>
-    requires { session_fits session.now ≡ true }
-    ensures { option_map shown result ≡ first_of (by_sums session.now sums.now) all_rules }
+fn first_that_applies(sums: &Sums, session: &CheckedSession) -> Option<Settlement>
+    ensures { option_map shown result ≡ first_of (by_sums (raw session.now) sums.now) all_rules }
 {
-    if let Some(price) = sums.half.mean_of_fifth(sums.day) {
-        return Some(Settlement {
-            price,
-            rule: Rule::LastHalfHour,
-        });
-    }
-    if let Some(price) = sums.hour.mean_of_fifth(sums.day) {
-        return Some(Settlement {
-            price,
-            rule: Rule::LastHour,
-        });
-    }
-    if let Some(price) = sums.day.mean() {
-        return Some(Settlement {
-            price,
-            rule: Rule::WholeDay,
-        });
-    }
-    if let Some(price) = session.quotation() {
-        return Some(Settlement {
-            price,
-            rule: Rule::Quotations,
-        });
-    }
-    let price = session.set_price()?;
-    Some(Settlement {
-        price,
-        rule: Rule::Committee,
+    Rule::ALL.iter().find_map(|rule| {
+        let price = rule.price(sums, session)?;
+        Some(Settlement { price, rule: *rule })
     })
 }
 
@@ -121,9 +120,11 @@ pub fn settlement_price(trades: &[Trade], session: &Session) -> Result<Settlemen
     ensures answer { told result ≡ settlement session.now trades.now }
     ensures law { Stands session.now trades.now result }
 {
-    if !fits_but_for_trades(trades, session) {
-        return Err(Fault::PriceInput { trade: 0 });
+    let outside_trades = Fault::PriceInput { trade: 0 };
+    let session = session.checked().map_err(|_| outside_trades)?;
+    if too_many(trades) {
+        return Err(outside_trades);
     }
     let sums = tally(trades, session.last)?;
-    first_that_applies(&sums, session).ok_or(Fault::NoPrice)
+    first_that_applies(&sums, &session).ok_or(Fault::NoPrice)
 }

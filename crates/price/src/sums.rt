@@ -1,4 +1,4 @@
-//! Contracts and money summed over trades, and their mean.
+//! Contracts and money summed over trades, in a window and in the day, and their mean.
 ghost use Rattle.std.specs.Prelude.{◌≡◌, ◌+◌, ◌*◌, ◌<◌, ◌≤◌, if◌then◌else◌, None, nat_le};
 ghost use Rattle.std.specs.Option.{option_map};
 ghost use Rattle.price.specs.Means.{mean, nearest};
@@ -23,7 +23,16 @@ pub(crate) struct Sum {
     ghost high: { value ≤ volume * 1000000000 },
 }
 
+/// The trades of the last half hour, of the last hour and of the whole day.
+#[derive(Clone, Copy)]
+pub(crate) struct Sums {
+    pub half: Sum,
+    pub hour: Sum,
+    pub day: Sum,
+}
+
 impl Sum {
+    /// No trades. A struct with a ghost field has no derived `Default`, and an impl of it is longer than this.
     pub(crate) const NONE: Sum = Sum {
         volume: 0,
         value: 0,
@@ -39,13 +48,13 @@ impl Sum {
     }
 
     /// With one trade more.
-    pub(crate) fn with(self, price: Price, count: Count) -> Self
-        requires { self.volume + count.value ≤ 4096000 }
-        ensures volume { result.volume ≡ self.volume + count.value }
-        ensures value { result.value ≡ self.value + price.value * count.value }
+    pub(crate) fn with(self, deal: Deal) -> Self
+        requires { self.volume + deal.count.value ≤ 4096000 }
+        ensures volume { result.volume ≡ self.volume + deal.count.value }
+        ensures value { result.value ≡ self.value + deal.price.value * deal.count.value }
     {
-        let volume = self.volume + count.get();
-        let value = self.value + price.get() * count.get();
+        let volume = self.volume + deal.count.get();
+        let value = self.value + deal.price.get() * deal.count.get();
         Sum { volume, value }
     }
 
@@ -56,7 +65,7 @@ impl Sum {
         ensures value { result.value ≡ self.value + (if nat_le deal.ago window then deal.price.value * deal.count.value else 0) }
     {
         if deal.ago <= window {
-            self.with(deal.price, deal.count)
+            self.with(deal)
         } else {
             self
         }

@@ -1,5 +1,5 @@
 -- What is written in a column is read there, and what is read is what would be written.
-use Rattle.std.proofs.Common.{◌≡◌, ℕ, zero, suc, ◌+◌, ◌-◌, ◌*◌, ◌/◌, ◌%◌, ◌^◌, ◌<◌, ◌≤◌, Bool, false, cond, not, ◌&&◌, eqb, leb, List, [], ◌∷◌, length, Some, None, Option, sym, refl, ap, ◌∙◌, ⊎_elim, pow-suc, mul-one, div-one, arith}
+use Rattle.std.proofs.Common.{◌≡◌, ℕ, zero, suc, ◌+◌, ◌-◌, ◌*◌, ◌/◌, ◌%◌, ◌^◌, ◌<◌, ◌≤◌, Bool, cond, ◌&&◌, eqb, leb, List, [], ◌∷◌, length, Some, None, Option, sym, refl, ap, ◌∙◌, ⊎_elim, pow-suc, mul-one, div-one, arith}
 use native.Mathlib.Nat.{one-le-pow, div-div-eq-div-mul, div-eq_of_lt, lt-mul-div-succ, pow-le-pow_right}
 use Rattle.std.proofs.lemmas.Bool.{ne_eqb, cases_eq, cases_lt, eqb-true, eqb-false, leb-true, and_parts, cases_Bool}
 use Rattle.sheet.specs.Numbers.{glyph, column_of, digits_of, word_of, nought_of, number_of, Shows, Reads}
@@ -7,16 +7,16 @@ use Rattle.sheet.proofs.Digits.{is_digit, word_is, below_18}
 
 -- the place before drops one digit more
 pub tenth : (n k : ℕ) → n / 10 ^ k / 10 ≡ n / 10 ^ suc k
-tenth n k = div-div-eq-div-mul n (10 ^ k) 10 ∙ ap (λ m. n / m) (sym (pow-suc 10 k))
+tenth n k = grind (arith, div-div-eq-div-mul, pow-suc)
 
 pub some_power : (k : ℕ) → 0 < 10 ^ k
 some_power k = one-le-pow k 10 (omega arith)
 
 pub quotient_none : (k n : ℕ) → n / 10 ^ k ≡ 0 → n < 10 ^ k
-quotient_none k n e = let h = lt-mul-div-succ n (some_power k) in let one : 10 ^ k * (n / 10 ^ k + 1) ≡ 10 ^ k = ap (λ q. 10 ^ k * (q + 1)) e ∙ mul-one (10 ^ k) in omega arith
+quotient_none k n h = grind (arith, lt-mul-div-succ, mul-one, some_power)
 
 pub quotient_some : (k n : ℕ) → (n / 10 ^ k ≡ 0 → ⊥) → 10 ^ k ≤ n
-quotient_some k n more = ⊎_elim (λ less. absurd (more (div-eq_of_lt less))) (λ le. le) (cases_lt n (10 ^ k))
+quotient_some k n h = grind arith
 
 pub column_none : (n : ℕ) → column_of 0 n ≡ []
 unfolding column_of
@@ -32,7 +32,7 @@ length_column (suc k) n = ap length (column_more k n) ∙ ap suc (length_column 
 
 -- a place with something left shows its digit
 pub glyph_digit : (last : Bool) (q : ℕ) → 0 < q → glyph last q ≡ 48 + q % 10
-glyph_digit last q some = ap (λ t. cond (t && not last) 32 (48 + q % 10)) (ne_eqb q 0 (λ e. omega arith))
+glyph_digit last q h = grind arith
 
 -- digits after a first that is not 0: written and read
 pub digits_read : (k n a : ℕ) → 0 < a → n / 10 ^ k ≡ a → digits_of a (column_of k n) ≡ Some n
@@ -81,9 +81,7 @@ digits_written (b ∷ bs) n a some e = digit_written b bs n a (λ low. omega ari
 
 -- a whole column that is written is read
 blank_read : (k n : ℕ) → n / 10 ^ suc k ≡ 0 → number_of (column_of (suc (suc k)) n) ≡ number_of (column_of (suc k) n)
-blank_read k n e =
-    let rest = column_of (suc k) n in
-    ap number_of (column_more (suc k) n) ∙ ap (λ q. number_of (glyph (eqb (suc k) 0) q ∷ rest)) e ∙ ap (λ t. number_of (glyph t 0 ∷ rest)) (ne_eqb (suc k) 0 (λ z. omega arith))
+blank_read k n h = grind (arith, column_more, ne_eqb)
 
 first_read : (k n : ℕ) → 0 < n / 10 ^ k → n < 10 ^ suc k → n < 10 ^ 18 → number_of (column_of (suc k) n) ≡ Some n
 first_read k n some within few =
@@ -102,7 +100,7 @@ first_read k n some within few =
 
 nought_read : (n : ℕ) → n ≡ 0 → number_of (column_of 1 n) ≡ Some n
 unfolding column_of
-nought_read n e = ap (λ m. number_of (column_of 1 m)) e ∙ ap Some (sym e)
+nought_read n h = grind arith
 
 pub column_read : (k n : ℕ) → n < 10 ^ suc k → n < 10 ^ 18 → number_of (column_of (suc k) n) ≡ Some n
 column_read zero n within few = ⊎_elim (λ e. nought_read n e) (λ e. first_read zero n (let h = div-one n in omega arith) within few) (cases_eq n 0)
@@ -118,24 +116,11 @@ shows_read (b ∷ bs) n s = ap number_of s.written ∙ column_read (length bs) n
 
 -- a whole column that is read is as written
 blank_written : (b : ℕ) (bs : List ℕ) (n : ℕ) → b ≡ 32 → Shows bs n → Shows (b ∷ bs) n
-blank_written b bs n e s =
-    let k = length bs in
-    let none : n / 10 ^ k ≡ 0 = div-eq_of_lt s.fit in
-    let more : 10 ^ k ≤ 10 ^ suc k = pow-le-pow_right (omega arith) (omega arith) in
-    let last : eqb k 0 ≡ false = ne_eqb k 0 (λ z. omega (arith, s.some)) in
-    record {
-      written = ap (λ l. b ∷ l) s.written ∙ ap (λ g. g ∷ column_of k n) (e ∙ sym (ap (glyph (eqb k 0)) none ∙ ap (λ t. glyph t 0) last)) ∙ sym (column_more k n);
-      some = omega arith;
-      fit = omega (arith, s.fit);
-      few = s.few;
-    }
+blank_written b bs n h1 h2 = grind (arith, column_more, div-eq_of_lt, ne_eqb, pow-le-pow_right)
 
 nought_written : (b : ℕ) (bs : List ℕ) (n : ℕ) → b ≡ 48 → nought_of bs ≡ Some n → Shows (b ∷ bs) n
 unfolding column_of
-nought_written b [] n e r =
-    let nought : n ≡ 0 = cc in
-    record { written = ap (λ g. g ∷ []) e ∙ ap (column_of 1) (sym nought); some = omega arith; fit = omega arith; few = omega arith }
-nought_written b (x ∷ xs) n e r = absurd (some_none r)
+nought_written b bs n h1 h2 = grind arith
 
 word_written : (b : ℕ) (bs : List ℕ) (n : ℕ) → (b ≡ 48 → ⊥) → word_of (b ∷ bs) ≡ Some n → Shows (b ∷ bs) n
 word_written b bs n other r =

@@ -1,10 +1,9 @@
 -- A column that is filled from its end.
-use Rattle.std.proofs.Common.{◌≡◌, ℕ, zero, suc, ◌+◌, ◌-◌, ◌/◌, ◌^◌, ◌<◌, ◌≤◌, true, false, eqb, List, ◌∷◌, length, drop, set, sym, ap, ◌∙◌, ⊎_elim, div-one, arith}
-use native.Mathlib.Nat.{sub-zero}
+use Rattle.std.proofs.Common.{◌≡◌, ℕ, suc, ◌+◌, ◌-◌, ◌/◌, ◌^◌, ◌<◌, ◌≤◌, true, eqb, List, ◌∷◌, length, drop, set, sym, ap, ◌∙◌, div-one, arith}
 use Rattle.std.proofs.lemmas.List.{drop_all, drop-set}
-use Rattle.std.proofs.lemmas.Bool.{eq-eqb, ne_eqb, cases_eq, lt-ltb, le-ltb}
+use Rattle.std.proofs.lemmas.Bool.{lt-ltb}
 use Rattle.sheet.specs.Numbers.{glyph, column_of, fits}
-use Rattle.sheet.proofs.Columns.{tenth, column_none, column_more, quotient_none, quotient_some}
+use Rattle.sheet.proofs.Columns.{tenth, column_none, column_more, quotient_none}
 
 -- the places from `at` on are written, and `left` is what is left of the number
 pub record Filled (n width at : ℕ) (xs : List ℕ) (left : ℕ) : Type 0 where
@@ -20,11 +19,7 @@ filled_none n xs =
     }
 
 same_end : (at width : ℕ) → at ≤ width → eqb at width ≡ eqb (width - at) 0
-same_end at width within =
-    ⊎_elim
-    (λ e. eq-eqb at width e ∙ sym (eq-eqb (width - at) 0 (omega arith)))
-    (λ n. ne_eqb at width n ∙ sym (ne_eqb (width - at) 0 (λ z. n (omega arith))))
-    (cases_eq at width)
+same_end at width h = grind arith
 
 pub filled_more : (n width at : ℕ) (xs : List ℕ) (left g : ℕ) → 0 < at → at ≤ width → length xs ≡ width → Filled n width at xs left → g ≡ glyph (eqb (at - 1 + 1) width) left → Filled n width (at - 1) (set xs (at - 1) g) (left / 10)
 filled_more n width at xs left g some within long so_far e =
@@ -40,13 +35,6 @@ filled_more n width at xs left g some within long so_far e =
       rest = ap (λ q. q / 10) so_far.rest ∙ tenth n k ∙ sym (ap (λ m. n / 10 ^ m) more);
     }
 
-pub filled_all : (n width at : ℕ) (xs : List ℕ) (left : ℕ) → at ≤ 0 → Filled n width at xs left → (xs ≡ column_of width n) × (left ≡ n / 10 ^ width)
-filled_all n width zero xs left end so_far = (so_far.tail ∙ ap (λ k. column_of k n) (sub-zero width), so_far.rest ∙ ap (λ k. n / 10 ^ k) (sub-zero width))
-filled_all n width (suc at) xs left end so_far = absurd (omega arith)
-
 -- nothing is left exactly if the number fits
 pub left_none : (n width left : ℕ) → left ≡ n / 10 ^ width → left ≡ 0 → true ≡ fits width n
-left_none n width left rest e = sym (lt-ltb n (10 ^ width) (quotient_none width n (sym rest ∙ e)))
-
-pub left_some : (n width left : ℕ) → left ≡ n / 10 ^ width → (left ≡ 0 → ⊥) → false ≡ fits width n
-left_some n width left rest e = sym (le-ltb n (10 ^ width) (quotient_some width n (λ z. e (rest ∙ z))))
+left_none n width left h1 h2 = grind (arith, lt-ltb, quotient_none)

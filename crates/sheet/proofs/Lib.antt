@@ -3,6 +3,5 @@ pub mod Digits
 pub mod Fills
 pub mod Entries
 pub mod Lines
-pub mod Rows
 pub mod Pieces
 pub mod Showing

@@ -1,23 +1,23 @@
 -- A line is read as a call exactly if it is the line that is written for that call.
-use Rattle.std.proofs.Common.{◌≡◌, ℕ, ◌^◌, ◌<◌, Bool, true, cond, eqb, List, [], ◌∷◌, ◌++◌, length, get_or, drop, IfSome, Some, None, Ok, Err, Option, Result, sym, refl, ap, ◌∙◌, subst, ⊎_elim, arith}
-use Rattle.std.proofs.lemmas.Bool.{ltb-true, lt-ltb, eqb-true, cases_Bool, and_parts, and_from, cond_both}
+use Rattle.std.proofs.Common.{◌≡◌, ℕ, ◌^◌, ◌<◌, Bool, true, cond, List, [], ◌∷◌, ◌++◌, is_some, IfOk, Some, None, Ok, Option, Result, sym, refl, ap, ◌∙◌, subst, arith, rules}
+use Rattle.std.proofs.lemmas.Bool.{cond_both}
+use Rattle.std.proofs.lemmas.Bool.Decides.{nat_tests}
 use Rattle.std.specs.Option.{ok_or}
 use Rattle.terms.specs.declared.fault.Fault.{Fault}
 use Rattle.terms.specs.declared.fault.Fault.TheVariants.{Field, Code}
 use Rattle.terms.specs.declared.call.Call.{Call}
-use Rattle.terms.specs.declared.call.Call.TheVariants as call
 use Rattle.sheet.specs.declared.kind.Kind.{Kind}
-use Rattle.sheet.specs.declared.kind.Kind.TheVariants as kind
-use Rattle.sheet.specs.declared.kind.Uses.{Uses}
-use Rattle.sheet.specs.declared.kind.Numbers.{Numbers}
-use Rattle.sheet.specs.Numbers.{column_of, fits, number_of}
-use Rattle.sheet.specs.Kinds.{kind_of, code_of, uses_of, call_of, kind_in, numbers_in, numbers}
-use Rattle.sheet.specs.Lines.{field_of, fields_of, then, ended, entry_of, rest_of, line_of, fitting, kind_said, call_said, coded_said, line_said, written_of, ReadsLine}
+use Rattle.sheet.specs.declared.kind.Fields.{Fields}
+use Rattle.sheet.specs.declared.number.TooNarrow.{TooNarrow}
+use Rattle.sheet.specs.Numbers.{column_of, number_of}
+use Rattle.sheet.specs.Rows.{entry_of, row_written}
+use Rattle.sheet.specs.Kinds.{kind_of, code_of, uses_of, number_in, call_of, kind_in, numbers_in, row}
+use Rattle.sheet.specs.Lines.{field_of, fields_of, then, ended, rest_of, line_of, fitting, kind_said, call_said, line_said, written_of, ReadsLine}
 use Rattle.sheet.proofs.Columns.{column_read, read_shows}
-use Rattle.sheet.proofs.Entries.{Entered, Taken, field_written, then_read, then_ok, not_ok}
+use Rattle.sheet.proofs.Entries.{Entered, Taken, number_fits, field_written, then_read, then_ok, some_ok}
 
--- numbers that may stand in the fields of a line
-pub record AllEntered (u : Uses) (n : Numbers) : Type 0 where
+-- what may stand in the fields of a line
+pub record AllEntered (u : Fields Bool) (n : Fields (Option ℕ)) : Type 0 where
   pub first : Entered u.first 5 n.first
   pub second : Entered u.second 5 n.second
   pub series : Entered u.series 3 n.series
@@ -25,7 +25,7 @@ pub record AllEntered (u : Uses) (n : Numbers) : Type 0 where
   pub price : Entered u.price 11 n.price
   pub amount : Entered u.amount 18 n.amount
 
-pub fields_read : (u : Uses) (n : Numbers) → AllEntered u n → fields_of u (rest_of u n) ≡ Ok n
+fields_read : (u : Fields Bool) (n : Fields (Option ℕ)) → AllEntered u n → fields_of u (rest_of n) ≡ Ok n
 fields_read u n e =
     then_read 2 u.first 4 n.first _ _ _ (omega arith) e.first
     (then_read 3 u.second 4 n.second _ _ _ (omega arith) e.second
@@ -34,32 +34,27 @@ fields_read u n e =
     (then_read 6 u.price 10 n.price _ _ _ (omega arith) e.price
     (then_read 7 u.amount 17 n.amount _ _ _ (omega arith) e.amount refl)))))
 
-ended_ok : {X : Type 0} (xs : List ℕ) (x y : X) → ended xs x ≡ Ok y → (xs ≡ 10 ∷ []) × (x ≡ y)
-ended_ok [] x y e = absurd (not_ok (Field 8) y e)
-ended_ok (b ∷ []) x y e =
-    ⊎_elim
-    (λ new. let h : Ok x ≡ Ok y = sym (ap (λ t. cond t (Ok x) (Err (Field 8))) new) ∙ e in (ap (λ c. c ∷ []) (eqb-true b 10 new), cc))
-    (λ other. absurd (not_ok (Field 8) y (sym (ap (λ t. cond t (Ok x) (Err (Field 8))) other) ∙ e)))
-    (cases_Bool (eqb b 10))
-ended_ok (b ∷ (c ∷ cs)) x y e = absurd (not_ok (Field 8) y e)
+ended_ok : {X : Type 0} (xs : List ℕ) (x y : X) → then (ended xs) (λ _. Ok x) ≡ Ok y → (xs ≡ 10 ∷ []) × (x ≡ y)
+ended_ok xs x y h = grind arith
 
-pub record Fields (u : Uses) (xs : List ℕ) (n : Numbers) : Type 0 where
-  pub written : xs ≡ rest_of u n
+-- fields that were read
+pub record Entries (u : Fields Bool) (xs : List ℕ) (n : Fields (Option ℕ)) : Type 0 where
+  pub written : xs ≡ rest_of n
   pub entered : AllEntered u n
 
--- one field was read: its number, the text after it, and what that is read as
-record Step {Y : Type 0} (place width : ℕ) (used : Bool) (xs : List ℕ) (f : ℕ × List ℕ → Result Y Fault) (y : Y) : Type 0 where
-  n : ℕ
+-- one field was read: what is in it, the text after it, and what that is read as
+record Step {Y : Type 0} (place width : ℕ) (used : Bool) (xs : List ℕ) (f : Option ℕ × List ℕ → Result Y Fault) (y : Y) : Type 0 where
+  entry : Option ℕ
   rest : List ℕ
-  taken : Taken used width xs n rest
-  follows : f (n, rest) ≡ Ok y
+  taken : Taken used width xs entry rest
+  follows : f (entry, rest) ≡ Ok y
 
-step : {Y : Type 0} (place width : ℕ) (used : Bool) (xs : List ℕ) (f : ℕ × List ℕ → Result Y Fault) (y : Y) → then (field_of place width used xs) f ≡ Ok y → Step place width used xs f y
+step : {Y : Type 0} (place width : ℕ) (used : Bool) (xs : List ℕ) (f : Option ℕ × List ℕ → Result Y Fault) (y : Y) → then (field_of place width used xs) f ≡ Ok y → Step place width used xs f y
 step place width used xs f y e =
     let s = then_ok (field_of place width used xs) f y e in
-    record { n = s.0.0; rest = s.0.1; taken = field_written place width used xs s.0.0 s.0.1 s.1; follows = s.2 }
+    record { entry = s.0.0; rest = s.0.1; taken = field_written place width used xs s.0.0 s.0.1 s.1; follows = s.2 }
 
-pub fields_written : (u : Uses) (xs : List ℕ) (n : Numbers) → fields_of u xs ≡ Ok n → Fields u xs n
+fields_written : (u : Fields Bool) (xs : List ℕ) (n : Fields (Option ℕ)) → fields_of u xs ≡ Ok n → Entries u xs n
 fields_written u xs n e =
     let a = step 2 5 u.first xs _ n e in
     let b = step 3 5 u.second a.rest _ n a.follows in
@@ -67,150 +62,67 @@ fields_written u xs n e =
     let d = step 5 5 u.count c.rest _ n c.follows in
     let p = step 6 11 u.price d.rest _ n d.follows in
     let q = step 7 18 u.amount p.rest _ n p.follows in
-    let m = numbers a.n b.n c.n d.n p.n q.n in
+    let m = row a.entry b.entry c.entry d.entry p.entry q.entry in
     let end = ended_ok q.rest m n q.follows in
-    let whole : xs ≡ rest_of u m =
-    a.taken.written ∙ ap (λ l. entry_of u.first 5 a.n ++ l)
-    (b.taken.written ∙ ap (λ l. entry_of u.second 5 b.n ++ l)
-    (c.taken.written ∙ ap (λ l. entry_of u.series 3 c.n ++ l)
-    (d.taken.written ∙ ap (λ l. entry_of u.count 5 d.n ++ l)
-    (p.taken.written ∙ ap (λ l. entry_of u.price 11 p.n ++ l)
-    (q.taken.written ∙ ap (λ l. entry_of u.amount 18 q.n ++ l) end.0))))) in
+    let whole : xs ≡ rest_of m =
+    a.taken.written ∙ ap (λ l. entry_of 5 a.entry ++ l)
+    (b.taken.written ∙ ap (λ l. entry_of 5 b.entry ++ l)
+    (c.taken.written ∙ ap (λ l. entry_of 3 c.entry ++ l)
+    (d.taken.written ∙ ap (λ l. entry_of 5 d.entry ++ l)
+    (p.taken.written ∙ ap (λ l. entry_of 11 p.entry ++ l)
+    (q.taken.written ∙ ap (λ l. entry_of 18 q.entry ++ l) end.0))))) in
     let all : AllEntered u m = record { first = a.taken.entered; second = b.taken.entered; series = c.taken.entered; count = d.taken.entered; price = p.taken.entered; amount = q.taken.entered } in
-    subst (λ k. Fields u xs k) end.1 (record { written = whole; entered = all })
-
--- the numbers of the fields that are used
-abbrev masked : Uses → Numbers → Numbers
-masked u n =
-    numbers (cond u.first n.first 0) (cond u.second n.second 0) (cond u.series n.series 0)
-    (cond u.count n.count 0) (cond u.price n.price 0) (cond u.amount n.amount 0)
+    subst (λ k. Entries u xs k) end.1 (record { written = whole; entered = all })
 
 -- a call and its parts
 call_parts : (c : Call) → call_of (kind_in c) (numbers_in c) ≡ c
-call_parts call.Begin = refl
-call_parts (call.Enrol a b) = refl
-call_parts (call.List a b c d e) = refl
-call_parts (call.Deposit a b) = refl
-call_parts (call.Withdraw a b) = refl
-call_parts (call.Trade a b c d e) = refl
-call_parts call.Late = refl
-call_parts call.Shut = refl
-call_parts (call.Mark a b) = refl
-call_parts (call.Final a b) = refl
-call_parts (call.Force a b c d e) = refl
-call_parts (call.Cover a) = refl
-call_parts call.Notices = refl
+call_parts c = grind arith
 
-only_used : (c : Call) → masked (uses_of (kind_in c)) (numbers_in c) ≡ numbers_in c
-only_used call.Begin = refl
-only_used (call.Enrol a b) = refl
-only_used (call.List a b c d e) = refl
-only_used (call.Deposit a b) = refl
-only_used (call.Withdraw a b) = refl
-only_used (call.Trade a b c d e) = refl
-only_used call.Late = refl
-only_used call.Shut = refl
-only_used (call.Mark a b) = refl
-only_used (call.Final a b) = refl
-only_used (call.Force a b c d e) = refl
-only_used (call.Cover a) = refl
-only_used call.Notices = refl
+-- which fields have a number
+abbrev present : Fields (Option ℕ) → Fields Bool
+present n = row (is_some n.first) (is_some n.second) (is_some n.series) (is_some n.count) (is_some n.price) (is_some n.amount)
+
+only_used : (c : Call) → present (numbers_in c) ≡ uses_of (kind_in c)
+only_used c = search rules
+
+-- a field where it is used
+abbrev used_field : Bool → Option ℕ → Option ℕ
+used_field used entry = cond used (Some (number_in entry)) None
+
+abbrev used_fields : Fields Bool → Fields (Option ℕ) → Fields (Option ℕ)
+used_fields u n =
+    row (used_field u.first n.first) (used_field u.second n.second) (used_field u.series n.series)
+    (used_field u.count n.count) (used_field u.price n.price) (used_field u.amount n.amount)
 
 -- what a kind makes of its numbers
-record Parts (k : Kind) (n : Numbers) : Type 0 where
+record Parts (k : Kind) (n : Fields (Option ℕ)) : Type 0 where
   kind : kind_in (call_of k n) ≡ k
-  numbers : numbers_in (call_of k n) ≡ masked (uses_of k) n
+  numbers : numbers_in (call_of k n) ≡ used_fields (uses_of k) n
   code : kind_of (code_of k) ≡ Some k
   short : code_of k < 10 ^ 2
 
-parts : (k : Kind) (n : Numbers) → Parts k n
-parts kind.Begin n = record { kind = refl; numbers = refl; code = refl; short = omega arith }
-parts kind.Enrol n = record { kind = refl; numbers = refl; code = refl; short = omega arith }
-parts kind.List n = record { kind = refl; numbers = refl; code = refl; short = omega arith }
-parts kind.Deposit n = record { kind = refl; numbers = refl; code = refl; short = omega arith }
-parts kind.Withdraw n = record { kind = refl; numbers = refl; code = refl; short = omega arith }
-parts kind.Trade n = record { kind = refl; numbers = refl; code = refl; short = omega arith }
-parts kind.Late n = record { kind = refl; numbers = refl; code = refl; short = omega arith }
-parts kind.Shut n = record { kind = refl; numbers = refl; code = refl; short = omega arith }
-parts kind.Mark n = record { kind = refl; numbers = refl; code = refl; short = omega arith }
-parts kind.Final n = record { kind = refl; numbers = refl; code = refl; short = omega arith }
-parts kind.Force n = record { kind = refl; numbers = refl; code = refl; short = omega arith }
-parts kind.Cover n = record { kind = refl; numbers = refl; code = refl; short = omega arith }
-parts kind.Notices n = record { kind = refl; numbers = refl; code = refl; short = omega arith }
-
-some_kind : (n m : ℕ) (a k : Kind) (rest : Option Kind) → m ≡ code_of a → (rest ≡ Some k → n ≡ code_of k) → cond (eqb n m) (Some a) rest ≡ Some k → n ≡ code_of k
-some_kind n m a k rest is otherwise e =
-    ⊎_elim
-    (λ same. let h : Some a ≡ Some k = sym (ap (λ t. cond t (Some a) rest) same) ∙ e in let g : a ≡ k = cc in eqb-true n m same ∙ is ∙ ap code_of g)
-    (λ other. otherwise (sym (ap (λ t. cond t (Some a) rest) other) ∙ e))
-    (cases_Bool (eqb n m))
-
-no_kind : (n : ℕ) (k : Kind) → None ≡ Some k → n ≡ code_of k
-no_kind n k e = absurd (let z : ◌≡◌ {A = ℕ} 0 1 = cc in omega arith)
+parts : (k : Kind) (n : Fields (Option ℕ)) → Parts k n
+parts k n = grind arith
 
 code_kind : (n : ℕ) (k : Kind) → kind_of n ≡ Some k → n ≡ code_of k
-code_kind n k =
-    (some_kind n 1 kind.Begin k _ refl
-    (some_kind n 2 kind.Enrol k _ refl
-    (some_kind n 3 kind.List k _ refl
-    (some_kind n 4 kind.Deposit k _ refl
-    (some_kind n 5 kind.Withdraw k _ refl
-    (some_kind n 6 kind.Trade k _ refl
-    (some_kind n 7 kind.Late k _ refl
-    (some_kind n 8 kind.Shut k _ refl
-    (some_kind n 9 kind.Mark k _ refl
-    (some_kind n 10 kind.Final k _ refl
-    (some_kind n 11 kind.Force k _ refl
-    (some_kind n 12 kind.Cover k _ refl
-    (some_kind n 13 kind.Notices k _ refl
-    (no_kind n k))))))))))))))
+code_kind n k e = grind (arith, nat_tests)
 
-masked_same : (u : Uses) (n : Numbers) → AllEntered u n → masked u n ≡ n
-masked_same u n e = λ i. numbers (e.first.only i) (e.second.only i) (e.series.only i) (e.count.only i) (e.price.only i) (e.amount.only i)
-
-fitting_entered : (u : Uses) (n : Numbers) → AllEntered u n → fitting n ≡ true
-fitting_entered u n e =
-    and_from _ _ (lt-ltb n.first (10 ^ 5) e.first.fit)
-    (and_from _ _ (lt-ltb n.second (10 ^ 5) e.second.fit)
-    (and_from _ _ (lt-ltb n.series (10 ^ 3) e.series.fit)
-    (and_from _ _ (lt-ltb n.count (10 ^ 5) e.count.fit)
-    (and_from _ _ (lt-ltb n.price (10 ^ 11) e.price.fit) (lt-ltb n.amount (10 ^ 18) e.amount.fit)))))
-
-entered_fitting : (u : Uses) (n : Numbers) → masked u n ≡ n → fitting n ≡ true → AllEntered u n
-entered_fitting u n only e =
-    let a = and_parts (fits 5 n.first) _ e in
-    let b = and_parts (fits 5 n.second) _ a.1 in
-    let c = and_parts (fits 3 n.series) _ b.1 in
-    let d = and_parts (fits 5 n.count) _ c.1 in
-    let p = and_parts (fits 11 n.price) (fits 18 n.amount) d.1 in
-    record {
-      first = record { fit = ltb-true n.first (10 ^ 5) a.0; only = ap (λ m. m.first) only };
-      second = record { fit = ltb-true n.second (10 ^ 5) b.0; only = ap (λ m. m.second) only };
-      series = record { fit = ltb-true n.series (10 ^ 3) c.0; only = ap (λ m. m.series) only };
-      count = record { fit = ltb-true n.count (10 ^ 5) d.0; only = ap (λ m. m.count) only };
-      price = record { fit = ltb-true n.price (10 ^ 11) p.0; only = ap (λ m. m.price) only };
-      amount = record { fit = ltb-true n.amount (10 ^ 18) p.1; only = ap (λ m. m.amount) only };
-    }
+fitting_entered : (u : Fields Bool) (n : Fields (Option ℕ)) → present n ≡ u → fitting n ≡ true → AllEntered u n
+fitting_entered u n h1 h2 = grind arith
 
 -- by the code
 code_read : (code : ℕ) (k : Kind) (rest : List ℕ) → number_of (column_of 2 code) ≡ Some code → kind_of code ≡ Some k → line_said (column_of 2 code ++ rest) ≡ call_said k rest
 unfolding column_of
-code_read code k rest number is =
-    ap (λ o. then (then (ok_or o (Field 1)) (λ c. ok_or (kind_of c) Code)) (λ k. call_said k rest)) number
-    ∙ ap (λ o. then (ok_or o Code) (λ k. call_said k rest)) is
+code_read code k rest h1 h2 = grind arith
 
 pub line_read : (c : Call) → fitting (numbers_in c) ≡ true → line_said (line_of c) ≡ Ok c
 line_read c fit =
     let k = kind_in c in
     let n = numbers_in c in
     let p = parts k n in
-    code_read (code_of k) k (rest_of (uses_of k) n) (column_read 1 (code_of k) p.short (omega (arith, p.short))) p.code
-    ∙ ap (λ r. then r (λ m. Ok (call_of k m))) (fields_read (uses_of k) n (entered_fitting (uses_of k) n (only_used c) fit))
+    code_read (code_of k) k (rest_of n) (column_read 1 (code_of k) p.short (omega (arith, p.short))) p.code
+    ∙ ap (λ r. then r (λ m. Ok (call_of k m))) (fields_read (uses_of k) n (fitting_entered (uses_of k) n (only_used c) fit))
     ∙ ap Ok (call_parts c)
-
-some_ok : {X : Type 0} (o : Option X) (e : Fault) (x : X) → ok_or o e ≡ Ok x → o ≡ Some x
-some_ok None e x h = absurd (not_ok e x h)
-some_ok (Some y) e x h = let same : y ≡ x = cc in ap Some same
 
 code_written : (tens units : ℕ) (k : Kind) → kind_said tens units ≡ Ok k → tens ∷ (units ∷ []) ≡ column_of 2 (code_of k)
 code_written tens units k e =
@@ -223,18 +135,12 @@ pub record ReadAs (line : List ℕ) (c : Call) : Type 0 where
   pub written : line ≡ line_of c
   pub fit : fitting (numbers_in c) ≡ true
 
-call_written : (tens units : ℕ) (rest : List ℕ) (k : Kind) (n : Numbers) → tens ∷ (units ∷ []) ≡ column_of 2 (code_of k) → Fields (uses_of k) rest n → ReadAs (tens ∷ (units ∷ rest)) (call_of k n)
-call_written tens units rest k n code fields =
-    let p = parts k n in
-    let same : numbers_in (call_of k n) ≡ n = p.numbers ∙ masked_same (uses_of k) n fields.entered in
-    record {
-      written = (λ i. code i ++ fields.written i) ∙ sym (λ i. column_of 2 (code_of (p.kind i)) ++ rest_of (uses_of (p.kind i)) (same i));
-      fit = ap fitting same ∙ fitting_entered (uses_of k) n fields.entered;
-    }
+call_written : (tens units : ℕ) (rest : List ℕ) (k : Kind) (n : Fields (Option ℕ)) → tens ∷ (units ∷ []) ≡ column_of 2 (code_of k) → Entries (uses_of k) rest n → ReadAs (tens ∷ (units ∷ rest)) (call_of k n)
+call_written tens units rest k n h1 h2 = grind arith
 
 pub line_written : (line : List ℕ) (c : Call) → line_said line ≡ Ok c → ReadAs line c
-line_written [] c e = absurd (not_ok (Field 1) c e)
-line_written (tens ∷ []) c e = absurd (not_ok (Field 1) c e)
+line_written [] c e = cc
+line_written (tens ∷ []) c e = cc
 line_written (tens ∷ (units ∷ rest)) c e =
     let s = then_ok (kind_said tens units) _ c e in
     let k = s.0 in
@@ -252,23 +158,23 @@ reads_line line r e =
       read = λ c f w. e ∙ ap line_said w ∙ line_read c f;
     }
 
--- a line by its first two bytes
-pub line_coded : (line : List ℕ) → 1 < length line → coded_said (get_or line 0 0) (get_or line 1 0) (drop 2 line) ≡ line_said line
-line_coded [] long = absurd (omega arith)
-line_coded (tens ∷ []) long = absurd (omega arith)
-line_coded (tens ∷ (units ∷ rest)) long = refl
-
-pub line_short : (line : List ℕ) → length line < 2 → Err (Field 1) ≡ line_said line
-line_short [] short = refl
-line_short (tens ∷ []) short = refl
-line_short (tens ∷ (units ∷ rest)) short = absurd (omega arith)
-
 -- numbers that were read fit in 32 bits
-pub small : (u : Uses) (xs : List ℕ) (n : Numbers) → fields_of u xs ≡ Ok n → (n.first < 2 ^ 32) × ((n.second < 2 ^ 32) × (n.series < 2 ^ 32))
+pub small : (u : Fields Bool) (xs : List ℕ) (n : Fields (Option ℕ)) → fields_of u xs ≡ Ok n → (number_in n.first < 2 ^ 32) × ((number_in n.second < 2 ^ 32) × (number_in n.series < 2 ^ 32))
 small u xs n e =
     let all = (fields_written u xs n e).entered in
-    (omega (arith, all.first.fit), (omega (arith, all.second.fit), omega (arith, all.series.fit)))
+    let first = number_fits 5 n.first all.first.fit in
+    let second = number_fits 5 n.second all.second.fit in
+    let series = number_fits 3 n.series all.series.fit in
+    (omega (arith, first), (omega (arith, second), omega (arith, series)))
+
+-- the columns of a line
+abbrev pub line_columns : Kind → Fields (Option ℕ) → List (ℕ × Option ℕ)
+line_columns k n =
+    (2, Some (code_of k)) ∷ ((5, n.first) ∷ ((5, n.second) ∷ ((3, n.series) ∷ ((5, n.count) ∷ ((11, n.price) ∷ ((18, n.amount) ∷ []))))))
+
+pub line_written_of : (c : Call) → row_written 50 (line_columns (kind_in c) (numbers_in c)) ≡ written_of c
+line_written_of c = grind arith
 
 -- a line that is written is read back
-pub written_read : (c : Call) → IfSome (written_of c) (λ line. line_said line ≡ Ok c)
-written_read c = cond_both (fitting (numbers_in c)) (Some (line_of c)) None (λ o. IfSome o (λ line. line_said line ≡ Ok c)) (λ fit. line_read c fit) (λ over. tt)
+pub written_read : (c : Call) (r : Result (List ℕ) TooNarrow) → r ≡ written_of c → IfOk r (λ line. line_said line ≡ Ok c)
+written_read c r h = grind (arith, cond_both, line_read)

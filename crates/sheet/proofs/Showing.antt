@@ -1,11 +1,12 @@
 -- A printed line shows its numbers.
-use Rattle.std.proofs.Common.{◌≡◌, ℕ, suc, ◌+◌, ◌^◌, ◌<◌, ◌≤◌, true, List, ◌++◌, length, take, drop, IfSome, Some, None, sym, refl, ap, ◌∙◌, arith}
+use Rattle.std.proofs.Common.{◌≡◌, ℕ, suc, ◌+◌, ◌^◌, ◌<◌, ◌≤◌, true, List, [], ◌∷◌, ◌++◌, length, take, drop, IfOk, Some, sym, refl, ap, ◌∙◌, arith}
 use native.Mathlib.Nat.{pow-le-pow_right}
 use Rattle.std.proofs.lemmas.List.{drop-drop, drop_at, take_at, length-append}
 use Rattle.std.proofs.lemmas.Bool.{ltb-true, and_parts, cond_both}
 use Rattle.sheet.specs.declared.printed.PrintedLine.{PrintedLine}
 use Rattle.sheet.specs.Numbers.{column_of, fits, number_of}
 use Rattle.sheet.specs.Printed.{columns_of, fitting, printed_of, ShowsNumbers}
+use Rattle.sheet.specs.Rows.{row_written}
 use Rattle.sheet.proofs.Columns.{length_column, column_read}
 
 -- the column that stands at a place, and what stands after it
@@ -43,5 +44,8 @@ columns_show p fit =
       end = after_column 30 3 p.answer.lifted xs _ lifted;
     }
 
-pub printed_shows : (p : PrintedLine) → IfSome (printed_of p) (λ bytes. ShowsNumbers p bytes)
-printed_shows p = cond_both (fitting p) (Some (columns_of p)) None (λ o. IfSome o (λ bytes. ShowsNumbers p bytes)) (λ fit. columns_show p fit) (λ over. tt)
+pub printed_shows : (p : PrintedLine) → IfOk (printed_of p) (λ bytes. ShowsNumbers p bytes)
+printed_shows p = grind (arith, columns_show, cond_both)
+
+pub row_printed : (p : PrintedLine) → row_written 34 ((4, Some p.line) ∷ ((3, Some p.number) ∷ ((5, Some p.place) ∷ ((18, Some p.answer.figure) ∷ ((3, Some p.answer.lifted) ∷ []))))) ≡ printed_of p
+row_printed p = grind arith

@@ -1,11 +1,10 @@
 -- The thirteen calls by their codes, and the fields that each of them uses.
-use Rattle.std.specs.Prelude.{ℕ, Bool, true, false, cond, Some, None, Option, ◌==◌}
+use Rattle.std.specs.Prelude.{ℕ, Bool, true, false, cond, Some, None, Option, ◌==◌, unwrap_or}
 use Rattle.terms.specs.declared.call.Call.{Call}
 use Rattle.terms.specs.declared.call.Call.TheVariants as call
 use Rattle.sheet.specs.declared.kind.Kind.{Kind}
 use Rattle.sheet.specs.declared.kind.Kind.TheVariants.{Begin, Enrol, List, Deposit, Withdraw, Trade, Late, Shut, Mark, Final, Force, Cover, Notices}
-use Rattle.sheet.specs.declared.kind.Uses.{Uses}
-use Rattle.sheet.specs.declared.kind.Numbers.{Numbers}
+use Rattle.sheet.specs.declared.kind.Fields.{Fields}
 
 abbrev pub kind_of : ℕ → Option Kind
 kind_of n =
@@ -30,12 +29,13 @@ code_of Force = 11
 code_of Cover = 12
 code_of Notices = 13
 
-abbrev pub row : Bool → Bool → Bool → Bool → Bool → Bool → Uses
+-- a row: first, second, series, count, price, amount
+abbrev pub row : {X : Type 0} → X → X → X → X → X → X → Fields X
 row first second series count price amount =
     record { first = first; second = second; series = series; count = count; price = price; amount = amount }
 
--- the table: first, second, series, count, price, amount
-abbrev pub uses_of : Kind → Uses
+-- the table of the fields that are used
+abbrev pub uses_of : Kind → Fields Bool
 uses_of Begin = row false false false false false false
 uses_of Enrol = row true true false false false false
 uses_of List = row true true true false true true
@@ -50,21 +50,25 @@ uses_of Force = row true true true true true false
 uses_of Cover = row true false false false false false
 uses_of Notices = row false false false false false false
 
+-- the number in a field, 0 in a blank one
+abbrev pub number_in : Option ℕ → ℕ
+number_in o = unwrap_or o 0
+
 -- the call of a kind with these numbers, and its parts
-abbrev pub call_of : Kind → Numbers → Call
-call_of Begin n = call.Begin
-call_of Enrol n = call.Enrol n.first n.second
-call_of List n = call.List n.first n.second n.series n.price n.amount
-call_of Deposit n = call.Deposit n.first n.amount
-call_of Withdraw n = call.Withdraw n.first n.amount
-call_of Trade n = call.Trade n.first n.second n.series n.count n.price
-call_of Late n = call.Late
-call_of Shut n = call.Shut
-call_of Mark n = call.Mark n.series n.price
-call_of Final n = call.Final n.series n.price
-call_of Force n = call.Force n.first n.second n.series n.count n.price
-call_of Cover n = call.Cover n.first
-call_of Notices n = call.Notices
+abbrev pub call_of : Kind → Fields (Option ℕ) → Call
+call_of Begin f = call.Begin
+call_of Enrol f = call.Enrol (number_in f.first) (number_in f.second)
+call_of List f = call.List (number_in f.first) (number_in f.second) (number_in f.series) (number_in f.price) (number_in f.amount)
+call_of Deposit f = call.Deposit (number_in f.first) (number_in f.amount)
+call_of Withdraw f = call.Withdraw (number_in f.first) (number_in f.amount)
+call_of Trade f = call.Trade (number_in f.first) (number_in f.second) (number_in f.series) (number_in f.count) (number_in f.price)
+call_of Late f = call.Late
+call_of Shut f = call.Shut
+call_of Mark f = call.Mark (number_in f.series) (number_in f.price)
+call_of Final f = call.Final (number_in f.series) (number_in f.price)
+call_of Force f = call.Force (number_in f.first) (number_in f.second) (number_in f.series) (number_in f.count) (number_in f.price)
+call_of Cover f = call.Cover (number_in f.first)
+call_of Notices f = call.Notices
 
 abbrev pub kind_in : Call → Kind
 kind_in call.Begin = Begin
@@ -81,21 +85,18 @@ kind_in (call.Force customer counterparty series offer price) = Force
 kind_in (call.Cover customer) = Cover
 kind_in call.Notices = Notices
 
-abbrev pub numbers : ℕ → ℕ → ℕ → ℕ → ℕ → ℕ → Numbers
-numbers first second series count price amount =
-    record { first = first; second = second; series = series; count = count; price = price; amount = amount }
-
-abbrev pub numbers_in : Call → Numbers
-numbers_in call.Begin = numbers 0 0 0 0 0 0
-numbers_in (call.Enrol customer broker) = numbers customer broker 0 0 0 0
-numbers_in (call.List size limit series price fee) = numbers size limit series 0 price fee
-numbers_in (call.Deposit account amount) = numbers account 0 0 0 0 amount
-numbers_in (call.Withdraw account amount) = numbers account 0 0 0 0 amount
-numbers_in (call.Trade buyer seller series count price) = numbers buyer seller series count price 0
-numbers_in call.Late = numbers 0 0 0 0 0 0
-numbers_in call.Shut = numbers 0 0 0 0 0 0
-numbers_in (call.Mark series price) = numbers 0 0 series 0 price 0
-numbers_in (call.Final series price) = numbers 0 0 series 0 price 0
-numbers_in (call.Force customer counterparty series offer price) = numbers customer counterparty series offer price 0
-numbers_in (call.Cover customer) = numbers customer 0 0 0 0 0
-numbers_in call.Notices = numbers 0 0 0 0 0 0
+-- its numbers, each in its field
+abbrev pub numbers_in : Call → Fields (Option ℕ)
+numbers_in call.Begin = row None None None None None None
+numbers_in (call.Enrol customer broker) = row (Some customer) (Some broker) None None None None
+numbers_in (call.List size limit series price fee) = row (Some size) (Some limit) (Some series) None (Some price) (Some fee)
+numbers_in (call.Deposit account amount) = row (Some account) None None None None (Some amount)
+numbers_in (call.Withdraw account amount) = row (Some account) None None None None (Some amount)
+numbers_in (call.Trade buyer seller series count price) = row (Some buyer) (Some seller) (Some series) (Some count) (Some price) None
+numbers_in call.Late = row None None None None None None
+numbers_in call.Shut = row None None None None None None
+numbers_in (call.Mark series price) = row None None (Some series) None (Some price) None
+numbers_in (call.Final series price) = row None None (Some series) None (Some price) None
+numbers_in (call.Force customer counterparty series offer price) = row (Some customer) (Some counterparty) (Some series) (Some offer) (Some price) None
+numbers_in (call.Cover customer) = row (Some customer) None None None None None
+numbers_in call.Notices = row None None None None None None

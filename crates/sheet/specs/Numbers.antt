@@ -13,6 +13,10 @@ column_of (suc k) n = glyph (k == 0) (n / 10 ^ k) ∷ column_of k n
 abbrev pub fits : ℕ → ℕ → Bool
 fits width n = nat_lt n (10 ^ width)
 
+-- the value of a digit
+abbrev pub digit_of : ℕ → Option ℕ
+digit_of b = cond (nat_le 48 b && nat_le b 57) (Some (b - 48)) None
+
 -- the number of digits after those that make n; none where another byte stands among them
 abbrev pub digits_of : ℕ → List ℕ → Option ℕ
 digits_of n [] = Some n

@@ -1,8 +1,9 @@
 -- A line of the answers.
-use Rattle.std.specs.Prelude.{◌≡◌, ℕ, Bool, cond, ◌&&◌, List, [], ◌∷◌, ◌++◌, length, take, drop, Some, None, Ok, Err, Option, Result}
+use Rattle.std.specs.Prelude.{◌≡◌, ℕ, Bool, cond, ◌&&◌, List, [], ◌∷◌, ◌++◌, length, take, drop, Some, Ok, Err, Result}
 use Rattle.terms.specs.declared.call.Answer.{Answer}
 use Rattle.terms.specs.declared.fault.Fault.{Fault}
 use Rattle.terms.specs.Faults.{number_of as fault_number, place_of as fault_place}
+use Rattle.sheet.specs.declared.number.TooNarrow.{TooNarrow}
 use Rattle.sheet.specs.declared.printed.PrintedLine.{PrintedLine}
 use Rattle.sheet.specs.Numbers.{column_of, fits, number_of}
 
@@ -20,8 +21,8 @@ columns_of p =
 abbrev pub fitting : PrintedLine → Bool
 fitting p = fits 4 p.line && (fits 3 p.number && (fits 5 p.place && (fits 18 p.answer.figure && fits 3 p.answer.lifted)))
 
-abbrev pub printed_of : PrintedLine → Option (List ℕ)
-printed_of p = cond (fitting p) (Some (columns_of p)) None
+abbrev pub printed_of : PrintedLine → Result (List ℕ) TooNarrow
+printed_of p = cond (fitting p) (Ok (columns_of p)) (Err (record {}))
 
 -- the bytes of a line show its numbers, each in its column, and end it
 pub record ShowsNumbers (p : PrintedLine) (bytes : List ℕ) : Type 0 where

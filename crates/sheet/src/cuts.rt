@@ -23,6 +23,7 @@ pub fn count_lines(sheet: &[u8]) -> Result<usize, Fault>
 }
 
 /// The line of a sheet at an index from 0, if the sheet has it whole.
+#[tactic(auto, using(crate::proofs::Pieces::line_is))]
 pub fn line_at(sheet: &[u8], index: usize) -> Option<&[u8]>
     ensures value { option_map (λ x. x.now) result ≡ line_at index sheet.now }
     ensures part { InSheet index sheet.now (option_map (λ x. x.now) result) }

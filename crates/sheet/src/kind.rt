@@ -1,13 +1,16 @@
 //! The thirteen calls by their codes, and the fields that each of them uses.
-ghost use Rattle.std.specs.Prelude.{◌≡◌, ◌^◌, ◌<◌};
+ghost use Rattle.std.specs.Prelude.{◌≡◌, ◌^◌, ◌<◌, unwrap_or};
+ghost use Rattle.std.specs.Option.{ok_or};
+ghost use Rattle.terms.specs.declared.fault.Fault.TheVariants.{Code};
 ghost use Rattle.sheet.specs.Kinds.{kind_of, code_of, uses_of, call_of, kind_in, numbers_in};
 
 use terms::call::Call;
+use terms::fault::Fault;
 
-/// A call without its numbers.
-#[derive(Clone, Copy)]
+/// A call without its numbers, under its code.
+#[derive(Clone, Copy, PartialEq, Eq, Debug)]
 pub(crate) enum Kind {
-    Begin,
+    Begin = 1,
     Enrol,
     List,
     Deposit,
@@ -22,228 +25,248 @@ pub(crate) enum Kind {
     Notices,
 }
 
-/// Which fields of its line a call uses, in the line's order.
-#[derive(Clone, Copy)]
-pub(crate) struct Uses {
-    pub first: bool,
-    pub second: bool,
-    pub series: bool,
-    pub count: bool,
-    pub price: bool,
-    pub amount: bool,
-}
-
-/// The numbers of a line; 0 in a field that is not used.
-#[derive(Clone, Copy)]
-pub(crate) struct Numbers {
-    pub first: u64,
-    pub second: u64,
-    pub series: u64,
-    pub count: u64,
-    pub price: u64,
-    pub amount: u64,
+/// One value for each field of a line after its code, in the line's order: its width, whether a call uses it, or what stands in it.
+#[derive(Clone, Copy, PartialEq, Eq, Default, Debug)]
+pub(crate) struct Fields<T> {
+    pub first: T,
+    pub second: T,
+    pub series: T,
+    pub count: T,
+    pub price: T,
+    pub amount: T,
 }
 
 /// The call with this code.
-pub(crate) fn kind_with(code: u64) -> Option<Kind>
-    ensures { result ≡ kind_of code }
-{
-    match code {
-        1 => Some(Kind::Begin),
-        2 => Some(Kind::Enrol),
-        3 => Some(Kind::List),
-        4 => Some(Kind::Deposit),
-        5 => Some(Kind::Withdraw),
-        6 => Some(Kind::Trade),
-        7 => Some(Kind::Late),
-        8 => Some(Kind::Shut),
-        9 => Some(Kind::Mark),
-        10 => Some(Kind::Final),
-        11 => Some(Kind::Force),
-        12 => Some(Kind::Cover),
-        13 => Some(Kind::Notices),
-        _ => None,
+impl TryFrom<u64> for Kind {
+    type Error = Fault;
+
+    ghost try_from_gives = { λ code result. result ≡ ok_or (kind_of code) Code };
+
+    fn try_from(code: u64) -> Result<Kind, Fault> {
+        match code {
+            1 => Ok(Kind::Begin),
+            2 => Ok(Kind::Enrol),
+            3 => Ok(Kind::List),
+            4 => Ok(Kind::Deposit),
+            5 => Ok(Kind::Withdraw),
+            6 => Ok(Kind::Trade),
+            7 => Ok(Kind::Late),
+            8 => Ok(Kind::Shut),
+            9 => Ok(Kind::Mark),
+            10 => Ok(Kind::Final),
+            11 => Ok(Kind::Force),
+            12 => Ok(Kind::Cover),
+            13 => Ok(Kind::Notices),
+            _ => Err(Fault::Code),
+        }
+    }
+}
+
+/// Its code.
+impl From<Kind> for u64 {
+    ghost from_gives = { λ kind code. code ≡ code_of kind };
+
+    fn from(kind: Kind) -> u64 {
+        kind as u64
+    }
+}
+
+impl From<Call> for Kind {
+    ghost from_gives = { λ call kind. kind ≡ kind_in call };
+
+    fn from(call: Call) -> Kind {
+        match call {
+            Call::Begin => Kind::Begin,
+            Call::Enrol { .. } => Kind::Enrol,
+            Call::List { .. } => Kind::List,
+            Call::Deposit { .. } => Kind::Deposit,
+            Call::Withdraw { .. } => Kind::Withdraw,
+            Call::Trade { .. } => Kind::Trade,
+            Call::Late => Kind::Late,
+            Call::Shut => Kind::Shut,
+            Call::Mark { .. } => Kind::Mark,
+            Call::Final { .. } => Kind::Final,
+            Call::Force { .. } => Kind::Force,
+            Call::Cover { .. } => Kind::Cover,
+            Call::Notices => Kind::Notices,
+        }
+    }
+}
+
+/// The numbers of a call, each in its field.
+impl From<Call> for Fields<Option<u64>> {
+    ghost from_gives = { λ call fields. fields ≡ numbers_in call };
+
+    fn from(call: Call) -> Fields<Option<u64>> {
+        let blank = Fields::default();
+        match call {
+            Call::Begin | Call::Late | Call::Shut | Call::Notices => blank,
+            Call::Enrol { customer, broker } => Fields {
+                first: Some(u64::from(customer)),
+                second: Some(u64::from(broker)),
+                ..blank
+            },
+            Call::List {
+                size,
+                limit,
+                series,
+                price,
+                fee,
+            } => Fields {
+                first: Some(size),
+                second: Some(limit),
+                series: Some(u64::from(series)),
+                price: Some(price),
+                amount: Some(fee),
+                ..blank
+            },
+            Call::Deposit { account, amount } | Call::Withdraw { account, amount } => Fields {
+                first: Some(u64::from(account)),
+                amount: Some(amount),
+                ..blank
+            },
+            Call::Trade {
+                buyer,
+                seller,
+                series,
+                count,
+                price,
+            } => Fields {
+                first: Some(u64::from(buyer)),
+                second: Some(u64::from(seller)),
+                series: Some(u64::from(series)),
+                count: Some(count),
+                price: Some(price),
+                ..blank
+            },
+            Call::Mark { series, price } | Call::Final { series, price } => Fields {
+                series: Some(u64::from(series)),
+                price: Some(price),
+                ..blank
+            },
+            Call::Force {
+                customer,
+                counterparty,
+                series,
+                offer,
+                price,
+            } => Fields {
+                first: Some(u64::from(customer)),
+                second: Some(u64::from(counterparty)),
+                series: Some(u64::from(series)),
+                count: Some(offer),
+                price: Some(price),
+                ..blank
+            },
+            Call::Cover { customer } => Fields {
+                first: Some(u64::from(customer)),
+                ..blank
+            },
+        }
     }
 }
 
 impl Kind {
-    pub(crate) fn code(self) -> u64
-        ensures { result ≡ code_of self }
-    {
-        match self {
-            Kind::Begin => 1,
-            Kind::Enrol => 2,
-            Kind::List => 3,
-            Kind::Deposit => 4,
-            Kind::Withdraw => 5,
-            Kind::Trade => 6,
-            Kind::Late => 7,
-            Kind::Shut => 8,
-            Kind::Mark => 9,
-            Kind::Final => 10,
-            Kind::Force => 11,
-            Kind::Cover => 12,
-            Kind::Notices => 13,
-        }
-    }
-
-    /// The table of the fields.
-    pub(crate) fn uses(self) -> Uses
+    /// The table of the fields: which of them a call of this kind uses.
+    pub(crate) fn uses(self) -> Fields<bool>
         ensures { result ≡ uses_of self }
     {
-        let (first, second, series, count, price, amount) = match self {
-            Kind::Begin | Kind::Late | Kind::Shut | Kind::Notices => (
-                false, false, false, false, false, false,
-            ),
-            Kind::Enrol => (true, true, false, false, false, false),
-            Kind::List => (true, true, true, false, true, true),
-            Kind::Deposit | Kind::Withdraw => (true, false, false, false, false, true),
-            Kind::Trade | Kind::Force => (true, true, true, true, true, false),
-            Kind::Mark | Kind::Final => (false, false, true, false, true, false),
-            Kind::Cover => (true, false, false, false, false, false),
-        };
-        Uses {
-            first,
-            second,
-            series,
-            count,
-            price,
-            amount,
+        let none = Fields::default();
+        match self {
+            Kind::Begin | Kind::Late | Kind::Shut | Kind::Notices => none,
+            Kind::Enrol => Fields {
+                first: true,
+                second: true,
+                ..none
+            },
+            Kind::List => Fields {
+                first: true,
+                second: true,
+                series: true,
+                price: true,
+                amount: true,
+                ..none
+            },
+            Kind::Deposit | Kind::Withdraw => Fields {
+                first: true,
+                amount: true,
+                ..none
+            },
+            Kind::Trade | Kind::Force => Fields {
+                first: true,
+                second: true,
+                series: true,
+                count: true,
+                price: true,
+                ..none
+            },
+            Kind::Mark | Kind::Final => Fields {
+                series: true,
+                price: true,
+                ..none
+            },
+            Kind::Cover => Fields {
+                first: true,
+                ..none
+            },
         }
     }
-}
 
-/// The call of a kind, with numbers of at most 32 bits where it takes an account or a series.
-pub(crate) fn call_with(kind: Kind, n: Numbers) -> Call
-    requires { (n.first < 2 ^ 32) × ((n.second < 2 ^ 32) × (n.series < 2 ^ 32)) }
-    ensures { result ≡ call_of kind n }
-{
-    let series = n.series as u32;
-    match kind {
-        Kind::Begin => Call::Begin,
-        Kind::Enrol => Call::Enrol {
-            customer: n.first as u32,
-            broker: n.second as u32,
-        },
-        Kind::List => Call::List {
-            size: n.first,
-            limit: n.second,
-            series,
-            price: n.price,
-            fee: n.amount,
-        },
-        Kind::Deposit => Call::Deposit {
-            account: n.first as u32,
-            amount: n.amount,
-        },
-        Kind::Withdraw => Call::Withdraw {
-            account: n.first as u32,
-            amount: n.amount,
-        },
-        Kind::Trade => Call::Trade {
-            buyer: n.first as u32,
-            seller: n.second as u32,
-            series,
-            count: n.count,
-            price: n.price,
-        },
-        Kind::Late => Call::Late,
-        Kind::Shut => Call::Shut,
-        Kind::Mark => Call::Mark {
-            series,
-            price: n.price,
-        },
-        Kind::Final => Call::Final {
-            series,
-            price: n.price,
-        },
-        Kind::Force => Call::Force {
-            customer: n.first as u32,
-            counterparty: n.second as u32,
-            series,
-            offer: n.count,
-            price: n.price,
-        },
-        Kind::Cover => Call::Cover {
-            customer: n.first as u32,
-        },
-        Kind::Notices => Call::Notices,
-    }
-}
-
-/// The kind of a call.
-pub(crate) fn kind_in(call: Call) -> Kind
-    ensures { result ≡ kind_in call }
-{
-    match call {
-        Call::Begin => Kind::Begin,
-        Call::Enrol { .. } => Kind::Enrol,
-        Call::List { .. } => Kind::List,
-        Call::Deposit { .. } => Kind::Deposit,
-        Call::Withdraw { .. } => Kind::Withdraw,
-        Call::Trade { .. } => Kind::Trade,
-        Call::Late => Kind::Late,
-        Call::Shut => Kind::Shut,
-        Call::Mark { .. } => Kind::Mark,
-        Call::Final { .. } => Kind::Final,
-        Call::Force { .. } => Kind::Force,
-        Call::Cover { .. } => Kind::Cover,
-        Call::Notices => Kind::Notices,
-    }
-}
-
-/// The numbers of a call.
-pub(crate) fn numbers_in(call: Call) -> Numbers
-    ensures { result ≡ numbers_in call }
-{
-    let (first, second, series, count, price, amount) = match call {
-        Call::Begin | Call::Late | Call::Shut | Call::Notices => (0, 0, 0, 0, 0, 0),
-        Call::Enrol { customer, broker } => (u64::from(customer), u64::from(broker), 0, 0, 0, 0),
-        Call::List {
-            size,
-            limit,
-            series,
-            price,
-            fee,
-        } => (size, limit, series, 0, price, fee),
-        Call::Deposit { account, amount } | Call::Withdraw { account, amount } => (
-            u64::from(account),
-            0,
-            0,
-            0,
-            0,
-            amount,
-        ),
-        Call::Trade {
-            buyer,
-            seller,
-            series,
-            count,
-            price,
-        } => (u64::from(buyer), u64::from(seller), series, count, price, 0),
-        Call::Mark { series, price } | Call::Final { series, price } => (0, 0, series, 0, price, 0),
-        Call::Force {
-            customer,
-            counterparty,
-            series,
-            offer,
-            price,
-        } => (
-            u64::from(customer),
-            u64::from(counterparty),
-            series,
-            offer,
-            price,
-            0,
-        ),
-        Call::Cover { customer } => (u64::from(customer), 0, 0, 0, 0, 0),
-    };
-    Numbers {
-        first,
-        second,
-        series: u64::from(series),
-        count,
-        price,
-        amount,
+    /// The call of this kind with these numbers, of at most 32 bits where it takes an account or a series. A blank counts as 0.
+    pub(crate) fn call(self, fields: Fields<Option<u64>>) -> Call
+        requires { (unwrap_or fields.first 0 < 2 ^ 32) × ((unwrap_or fields.second 0 < 2 ^ 32) × (unwrap_or fields.series 0 < 2 ^ 32)) }
+        ensures { result ≡ call_of self fields }
+    {
+        // A field that the kind uses was read, and the others are not looked at: to refuse nothing here would add a fault that no line has.
+        let first = fields.first.unwrap_or(0);
+        let second = fields.second.unwrap_or(0);
+        let series = fields.series.unwrap_or(0) as u32;
+        let count = fields.count.unwrap_or(0);
+        let price = fields.price.unwrap_or(0);
+        let amount = fields.amount.unwrap_or(0);
+        match self {
+            Kind::Begin => Call::Begin,
+            Kind::Enrol => Call::Enrol {
+                customer: first as u32,
+                broker: second as u32,
+            },
+            Kind::List => Call::List {
+                size: first,
+                limit: second,
+                series,
+                price,
+                fee: amount,
+            },
+            Kind::Deposit => Call::Deposit {
+                account: first as u32,
+                amount,
+            },
+            Kind::Withdraw => Call::Withdraw {
+                account: first as u32,
+                amount,
+            },
+            Kind::Trade => Call::Trade {
+                buyer: first as u32,
+                seller: second as u32,
+                series,
+                count,
+                price,
+            },
+            Kind::Late => Call::Late,
+            Kind::Shut => Call::Shut,
+            Kind::Mark => Call::Mark { series, price },
+            Kind::Final => Call::Final { series, price },
+            Kind::Force => Call::Force {
+                customer: first as u32,
+                counterparty: second as u32,
+                series,
+                offer: count,
+                price,
+            },
+            Kind::Cover => Call::Cover {
+                customer: first as u32,
+            },
+            Kind::Notices => Call::Notices,
+        }
     }
 }

@@ -13,6 +13,7 @@ mod row;
 mod tests {
     use crate::cuts::count_lines;
     use crate::line::{read_line, write_call};
+    use crate::number::TooNarrow;
     use crate::printed::PrintedLine;
     use terms::call::{Answer, Call};
     use terms::fault::Fault;
@@ -197,7 +198,7 @@ mod tests {
     fn every_call(rt: HostRuntime) {
         for (line, call) in CALLS {
             assert_eq!(rt; read_line(line), Ok(call));
-            assert_eq!(rt; write_call(call), Some(*line));
+            assert_eq!(rt; write_call(call), Ok(*line));
         }
     }
 
@@ -210,10 +211,10 @@ mod tests {
 
     #[test]
     fn one_byte_damaged(rt: HostRuntime) {
-        for at in 0..50 {
+        for (at, place) in PLACES.iter().enumerate() {
             let mut line = *TRADE;
             line[at] = b'x';
-            assert_eq!(rt; read_line(&line), Err(Fault::Field { place: PLACES[at] }));
+            assert_eq!(rt; read_line(&line), Err(Fault::Field { place: *place }));
         }
     }
 
@@ -222,7 +223,7 @@ mod tests {
         for b in 0..=255u8 {
             let mut line = *TRADE;
             line[6] = b;
-            assert_eq!(rt; read_line(&line).is_ok(), b >= b'0' && b <= b'9');
+            assert_eq!(rt; read_line(&line).is_ok(), b.is_ascii_digit());
         }
     }
 
@@ -235,16 +236,16 @@ mod tests {
                 lifted: 0,
             }),
         );
-        assert_eq!(rt;
-            called.bytes(),
-            Some(*b"  11  0    0                 1  0\n")
-        );
+        assert_eq!(rt; called.bytes(), Ok(*b"  11  0    0                 1  0\n"));
         let refused = PrintedLine::new(0, Err(Fault::SheetSize));
         assert_eq!(rt;
             refused.bytes(),
-            Some(*b"   0  1    0                 0  0\n")
+            Ok(*b"   0  1    0                 0  0\n")
         );
-        assert_eq!(rt; PrintedLine::new(10_000, Err(Fault::Code)).bytes(), None);
+        assert_eq!(rt;
+            PrintedLine::new(10_000, Err(Fault::Code)).bytes(),
+            Err(TooNarrow)
+        );
         assert_eq!(rt; count_lines(b""), Ok(0));
         assert_eq!(rt; count_lines(TRADE), Ok(1));
         assert_eq!(rt; count_lines(b"\n"), Err(Fault::SheetSize));

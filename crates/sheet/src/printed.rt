@@ -1,13 +1,14 @@
 //! A line of the answers.
-ghost use Rattle.std.specs.Prelude.{◌≡◌, IfSome};
+ghost use Rattle.std.specs.Prelude.{◌≡◌, IfOk};
 ghost use Rattle.sheet.specs.Printed.{answered, printed_of, ShowsNumbers};
 
-use crate::row::put;
+use crate::number::TooNarrow;
+use crate::row::row;
 use terms::call::Answer;
 use terms::fault::Fault;
 
 /// What is printed for one line of the sheet: its number from 1, the number of the refusal or 0, its place, and the answer.
-#[derive(Clone, Copy)]
+#[derive(Clone, Copy, PartialEq, Eq, Debug)]
 pub struct PrintedLine {
     pub line: u32,
     pub number: u32,
@@ -21,6 +22,7 @@ impl PrintedLine {
         ensures { result ≡ answered line outcome }
     {
         match outcome {
+            // 0 is the row's format: each column shows a number, and a line that is not refused has 0 for refusal and place.
             Ok(answer) => PrintedLine {
                 line,
                 number: 0,
@@ -42,25 +44,18 @@ impl PrintedLine {
         }
     }
 
-    /// Writes the columns side by side.
-    fn columns(self) -> Option<[u8; 34]>
-        ensures { result ≡ printed_of self }
-    {
-        let mut row = [b'\n'; 34];
-        put(&mut row, 0, 4, true, u64::from(self.line))?;
-        put(&mut row, 4, 7, true, u64::from(self.number))?;
-        put(&mut row, 7, 12, true, u64::from(self.place))?;
-        put(&mut row, 12, 30, true, self.answer.figure)?;
-        put(&mut row, 30, 33, true, u64::from(self.answer.lifted))?;
-        row[33] = b'\n';
-        Some(row)
-    }
-
     /// The bytes of the line, if its numbers fit their columns.
-    pub fn bytes(self) -> Option<[u8; 34]>
+    #[tactic(auto, using(crate::proofs::Showing::row_printed, crate::proofs::Showing::printed_shows))]
+    pub fn bytes(self) -> Result<[u8; 34], TooNarrow>
         ensures value { result ≡ printed_of self }
-        ensures shown { IfSome result (λ bytes. ShowsNumbers self bytes) }
+        ensures shown { IfOk result (λ bytes. ShowsNumbers self bytes) }
     {
-        self.columns()
+        row(&[
+            (4, Some(u64::from(self.line))),
+            (3, Some(u64::from(self.number))),
+            (5, Some(u64::from(self.place))),
+            (18, Some(self.answer.figure)),
+            (3, Some(u64::from(self.answer.lifted))),
+        ])
     }
 }

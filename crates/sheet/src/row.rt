@@ -1,27 +1,45 @@
-//! Numbers side by side in a row of bytes.
-ghost use Rattle.std.specs.Prelude.{◌≡◌, ◌-◌, ◌≤◌, ◌++◌, length, take, is_some};
-ghost use Rattle.sheet.specs.Numbers.{fits};
-ghost use Rattle.sheet.specs.Lines.{entry_of};
+//! Columns side by side in a row of bytes.
+ghost use Rattle.std.specs.Prelude.{◌≡◌, ℕ, ◌≤◌, length, is_ok, sum_by, Option, IfOk, replicate};
+ghost use Rattle.std.specs.List.{list_all};
+ghost use Rattle.sheet.specs.Rows.{entry_of, entry_fits, row_of, row_written};
 
-use crate::number::write_number;
+use crate::number::{TooNarrow, write_number};
 
-/// Writes a field: a number, or spaces if it is not used.
-fn write_entry(field: &mut [u8], used: bool, number: u64) -> Option<()>
-    ensures shown { field.new ≡ entry_of used (length field.old) number }
-    ensures whole { is_some result ≡ fits (length field.old) number }
+/// Writes a field: its number, or spaces if it has none.
+fn write_entry(field: &mut [u8], entry: Option<u64>) -> Result<(), TooNarrow>
+    ensures shown { field.new ≡ entry_of (length field.old) entry }
+    ensures whole { is_ok result ≡ entry_fits (length field.old) entry }
 {
-    let whole = write_number(field, number);
-    if !used {
-        field.fill(b' ');
+    match entry {
+        Some(number) => write_number(field, number),
+        None => {
+            field.fill(b' ');
+            Ok(())
+        }
     }
-    whole
 }
 
-/// Writes a field from one place of a row up to another.
-pub(crate) fn put(row: &mut [u8], from: usize, to: usize, used: bool, number: u64) -> Option<()>
-    requires { (from ≤ to) × (to ≤ length row.old) }
-    ensures shown { take to row.new ≡ take from row.old ++ entry_of used (to - from) number }
-    ensures whole { is_some result ≡ fits (to - from) number }
+/// Writes columns one after another, from the start of a row of newlines.
+fn write_columns(bytes: &mut [u8], columns: &[(usize, Option<u64>)]) -> Result<(), TooNarrow>
+    requires { sum_by (λ (c : ℕ × Option ℕ). c.0) columns.now ≤ length bytes.old }
+    ensures shown { bytes.old ≡ replicate (length bytes.old) 10 → IfOk result (λ _. bytes.new ≡ row_of (length bytes.old) columns.now) }
+    ensures whole { is_ok result ≡ list_all (λ (c : ℕ × Option ℕ). entry_fits c.0 c.1) columns.now }
 {
-    write_entry(&mut row[from..to], used, number)
+    let [(width, entry), later @ ..] = columns else {
+        return Ok(());
+    };
+    let (field, rest) = bytes.split_at_mut(*width);
+    write_entry(field, *entry)?;
+    // By recursion: after a `for` that moves `rest` on, which was tried, a proof knows nothing of the row.
+    write_columns(rest, later)
+}
+
+/// A row of columns, each with its width and its number if it has one, and newlines after them.
+pub(crate) fn row<const N: usize>(columns: &[(usize, Option<u64>)]) -> Result<[u8; N], TooNarrow>
+    requires { sum_by (λ (c : ℕ × Option ℕ). c.0) columns.now ≤ N }
+    ensures { result ≡ row_written N columns.now }
+{
+    let mut row = [b'\n'; N];
+    write_columns(&mut row, columns)?;
+    Ok(row)
 }

@@ -1,7 +1,6 @@
 //! Sheets tried on a room: empty, torn, too long, with lines that are no calls, and one of a thousand lines.
 #![tactic(auto)]
 
-use anyhow::anyhow;
 use book::{Book, TableBook};
 use clearing::Room;
 use day_sheet::clear_sheet;
@@ -26,10 +25,7 @@ const BAD: [&[u8; 50]; 7] = [
 
 /// A margin of 5,000 rials a contract, 3,500 at least, in every series.
 fn flat_rule() -> anyhow::Result<Flat> {
-    match Tariff::new(5_000, 3_500) {
-        Ok(tariff) => Ok(Flat::uniform(tariff)),
-        Err(_) => Err(anyhow!("no such tariff")),
-    }
+    Ok(Flat::uniform(Tariff::new(5_000, 3_500)?))
 }
 
 /// Clears a sheet on a new room, and prints its answers.
@@ -46,13 +42,9 @@ fn try_sheet(rt: &HostRuntime, what: &str, sheet: &[u8]) -> anyhow::Result<()> {
 
 /// The line of a call at the end of a sheet.
 fn add(sheet: &mut Vec<u8>, call: Call) -> anyhow::Result<()> {
-    match write_call(call) {
-        Some(line) => {
-            sheet.extend_from_slice(&line)?;
-            Ok(())
-        }
-        None => Err(anyhow!("a number does not fit its field")),
-    }
+    let line = write_call(call)?;
+    sheet.extend_from_slice(&line)?;
+    Ok(())
 }
 
 /// Opens the room, with two customers and a series.
@@ -83,15 +75,12 @@ fn opening(sheet: &mut Vec<u8>) -> anyhow::Result<()> {
             amount: 1_000_000,
         },
     ];
-    for call in &calls {
-        add(sheet, *call)?;
-    }
-    Ok(())
+    calls.into_iter().try_for_each(|call| add(sheet, call))
 }
 
 /// A thousand lines: the opening, and 994 trades of which each second one goes back.
-fn thousand_lines(heap: Global) -> anyhow::Result<Vec<u8>> {
-    let mut sheet = Vec::new(heap);
+fn thousand_lines(alloc: Global) -> anyhow::Result<Vec<u8>> {
+    let mut sheet = Vec::new(alloc);
     opening(&mut sheet)?;
     for turn in 0..994u32 {
         let buyer = 1 + turn % 2;
@@ -111,24 +100,18 @@ fn thousand_lines(heap: Global) -> anyhow::Result<Vec<u8>> {
 
 /// How many of the printed lines are of accepted calls: the three bytes after the line's number say 0.
 fn accepted(answers: &[u8]) -> usize {
-    let mut count = 0usize;
-    for line in answers.chunks(34) {
-        if let [_, _, _, _, b' ', b' ', b'0', ..] = line {
-            count = count.saturating_add(1);
-        }
-    }
-    count
+    answers
+        .chunks(34)
+        .filter(|line| matches!(line, [_, _, _, _, b' ', b' ', b'0', ..]))
+        .count()
 }
 
 fn try_thousand(rt: &HostRuntime) -> anyhow::Result<()> {
-    let heap = rt.alloc();
-    let sheet = thousand_lines(heap)?;
+    let alloc = rt.alloc();
+    let sheet = thousand_lines(alloc)?;
     let rule = flat_rule()?;
     let mut book = TableBook::new();
-    let answers = {
-        let mut room = Room::new(&mut book, &rule);
-        clear_sheet(&mut room, sheet.as_slice(), heap)?
-    };
+    let answers = clear_sheet(&mut Room::new(&mut book, &rule), sheet.as_slice(), alloc)?;
     let (bytes, done) = (answers.len(), accepted(answers.as_slice()));
     println!(rt; "a thousand lines: {bytes} bytes of answers, {done} accepted")?;
     let (one, two, house) = (book.balance(1), book.balance(2), book.balance(64));
@@ -137,17 +120,17 @@ fn try_thousand(rt: &HostRuntime) -> anyhow::Result<()> {
 }
 
 fn main(rt: HostRuntime) -> anyhow::Result<()> {
-    let heap = rt.alloc();
+    let alloc = rt.alloc();
     try_sheet(&rt, "an empty sheet", b"")?;
-    let mut sheet = Vec::new(heap);
+    let mut sheet = Vec::new(alloc);
     opening(&mut sheet)?;
     try_sheet(&rt, "a whole sheet", sheet.as_slice())?;
     let torn = sheet.len().saturating_sub(1);
     try_sheet(&rt, "a torn sheet", &sheet.as_slice()[0..torn])?;
-    let mut long = thousand_lines(heap)?;
+    let mut long = thousand_lines(alloc)?;
     add(&mut long, Call::Late)?;
     try_sheet(&rt, "a sheet of 1,001 lines", long.as_slice())?;
-    let mut bad = Vec::new(heap);
+    let mut bad = Vec::new(alloc);
     for line in &BAD {
         bad.extend_from_slice(*line)?;
     }

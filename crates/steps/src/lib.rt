@@ -6,8 +6,8 @@
 ghost use Rattle.std.specs.Prelude.{◌≡◌};
 ghost use Rattle.steps.specs.Phases.{phase_number};
 
-/// Where the day stands.
-#[derive(Clone, Copy, PartialEq, Eq, Debug)]
+/// Where the day stands. A phase is less than those that follow it.
+#[derive(Clone, Copy, PartialEq, Eq, PartialOrd, Ord, Debug)]
 pub enum Phase {
     Unopened,
     Session,
@@ -20,12 +20,7 @@ impl Phase {
     pub fn number(self) -> u8
         ensures { result ≡ phase_number self }
     {
-        match self {
-            Phase::Unopened => 0,
-            Phase::Session => 1,
-            Phase::Late => 2,
-            Phase::Shut => 3,
-        }
+        self as u8
     }
 }
 

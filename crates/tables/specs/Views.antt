@@ -16,10 +16,10 @@ abbrev pub series_of : SeriesRow → Series
 series_of x = record { stage = x.stage; size = x.size.value; limit = x.limit.value; fee = x.fee.value; price = x.price.value; marked = x.marked }
 
 abbrev pub customers_of : Customers → List Customer
-customers_of t = map customer_of t.table.rows
+customers_of t = map customer_of t.rows
 
 abbrev pub all_series_of : SeriesTable → List Series
-all_series_of t = map series_of t.table.rows
+all_series_of t = map series_of t.rows
 
 -- by number, from 1
 abbrev pub customer_at : Customers → ℕ → Customer

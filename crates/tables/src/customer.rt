@@ -1,4 +1,4 @@
-//! A customer, and a table of them.
+//! A customer.
 ghost use Rattle.std.specs.Prelude.{◌≡◌, ◌-◌, slice_set};
 ghost use Rattle.steps.specs.Deals.{with_positions};
 ghost use Rattle.steps.specs.Steps.{noted, under_broker};
@@ -44,10 +44,4 @@ impl Customer {
     {
         self.notice = notice;
     }
-}
-
-/// A row for each customer, that of account 1 first.
-#[derive(Clone, Copy)]
-pub struct CustomerTable {
-    pub rows: [Customer; 56],
 }

@@ -3,8 +3,6 @@
 
 pub mod customer;
 pub mod customers;
-pub mod holders;
-pub mod listings;
 pub mod position;
 pub mod positions;
 pub mod series;

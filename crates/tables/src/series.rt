@@ -1,4 +1,4 @@
-//! A series, and a table of them.
+//! A series.
 ghost use Rattle.std.specs.Prelude.{◌≡◌};
 ghost use Rattle.steps.specs.State.{no_series};
 ghost use Rattle.steps.specs.Steps.{settled_at, ended_at, cleared};
@@ -7,8 +7,18 @@ ghost use Rattle.tables.specs.Views.{series_of, listed};
 use steps::Stage;
 use terms::ranges::{Count, Fee, Price, Ranged};
 
+/// What a series is listed with.
+#[derive(Clone, Copy, PartialEq, Eq, Debug)]
+pub struct Specification {
+    pub size: Count,
+    pub limit: Count,
+    pub price: Price,
+    pub fee: Fee,
+}
+
 /// A series: what it was listed with, the price that stands, and whether it was marked since the last notices.
 /// Every number is 0 until the series is listed.
+// No Option of a listing: one that has ended keeps its numbers, and the clearing steps speak of 0 where there are none.
 #[derive(Clone, Copy)]
 pub struct Series {
     pub stage: Stage,
@@ -20,6 +30,7 @@ pub struct Series {
 }
 
 impl Series {
+    // No `Default`, since `Ranged` has none.
     /// A series that was never listed.
     pub fn unlisted() -> Series
         ensures { series_of result ≡ no_series }
@@ -35,14 +46,14 @@ impl Series {
     }
 
     /// Opens the series, unmarked, at a price that stands from now on.
-    pub fn list(&mut self, size: Count, limit: Count, price: Price, fee: Fee)
-        ensures { series_of self.new ≡ listed size.value limit.value price.value fee.value }
+    pub fn list(&mut self, specification: Specification)
+        ensures { series_of self.new ≡ listed specification.size.value specification.limit.value specification.price.value specification.fee.value }
     {
         self.stage = Stage::Open;
-        self.size = size.from_nought();
-        self.limit = limit.from_nought();
-        self.fee = fee;
-        self.price = price.from_nought();
+        self.size = specification.size.from_nought();
+        self.limit = specification.limit.from_nought();
+        self.fee = specification.fee;
+        self.price = specification.price.from_nought();
         self.clear();
     }
 
@@ -68,10 +79,4 @@ impl Series {
     {
         self.marked = false;
     }
-}
-
-/// A row for each series, that of number 1 first.
-#[derive(Clone, Copy)]
-pub struct SeriesRows {
-    pub rows: [Series; 24],
 }

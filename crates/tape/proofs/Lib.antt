@@ -1,4 +1,3 @@
 pub mod Cuts
 pub mod Days
-pub mod Named
-pub mod Steps
+pub mod Numbers

@@ -1,4 +1,5 @@
 pub mod Lines
+pub mod Messages
 pub mod Names
 pub mod Tapes
 pub mod Words

@@ -1,20 +1,18 @@
--- Bytes cut into lines, words and numbers.
-use Rattle.std.specs.Prelude.{ℕ, cond, List, [], ◌∷◌, Some, None, Option, ◌==◌}
+-- Bytes cut into words and numbers.
+use Rattle.std.specs.Prelude.{ℕ, suc, zero, not, List, [], ◌∷◌, drop, Some, None, Option, ◌==◌}
+use Rattle.std.specs.List.{position_or_len, before_first, after_first}
 use Rattle.sheet.specs.Numbers.{number_of}
 
 -- what stands before the first byte c, and what stands after it
 abbrev pub before : ℕ → List ℕ → List ℕ
-before c [] = []
-before c (b ∷ bs) = cond (b == c) [] (b ∷ before c bs)
+before c text = before_first (λ b. b == c) text
 
 abbrev pub after : ℕ → List ℕ → List ℕ
-after c [] = []
-after c (b ∷ bs) = cond (b == c) bs (after c bs)
+after c text = after_first (λ b. b == c) text
 
--- without the spaces in front
+-- from the first byte on that is no space
 abbrev pub trimmed_of : List ℕ → List ℕ
-trimmed_of [] = []
-trimmed_of (b ∷ bs) = cond (b == 32) (trimmed_of bs) (b ∷ bs)
+trimmed_of text = drop (position_or_len (λ b. not (b == 32)) text) text
 
 -- the first number of a text, written as on the day sheet, and what stands after it
 abbrev pub with_rest : Option ℕ → List ℕ → Option (ℕ × List ℕ)
@@ -24,36 +22,19 @@ with_rest (Some n) rest = Some (n, rest)
 unfoldable pub first_number : List ℕ → Option (ℕ × List ℕ)
 first_number text = with_rest (number_of (before 32 (trimmed_of text))) (after 32 (trimmed_of text))
 
--- a text of one number, of two and of three
-abbrev pub if_blank : List ℕ → ℕ → Option ℕ
-if_blank [] n = Some n
-if_blank (b ∷ bs) n = None
+-- the numbers of a text that has just so many
+abbrev pub if_blank : List ℕ → Option (List ℕ)
+if_blank [] = Some []
+if_blank (b ∷ bs) = None
 
-abbrev pub alone : Option (ℕ × List ℕ) → Option ℕ
-alone None = None
-alone (Some x) = if_blank (trimmed_of x.1) x.0
+abbrev pub onto : ℕ → Option (List ℕ) → Option (List ℕ)
+onto n None = None
+onto n (Some ns) = Some (n ∷ ns)
 
-abbrev pub one_of : List ℕ → Option ℕ
-one_of text = alone (first_number text)
+abbrev pub then_more : (List ℕ → Option (List ℕ)) → Option (ℕ × List ℕ) → Option (List ℕ)
+then_more more None = None
+then_more more (Some x) = onto x.0 (more x.1)
 
-abbrev pub before_one : ℕ → Option ℕ → Option (ℕ × ℕ)
-before_one n None = None
-before_one n (Some m) = Some (n, m)
-
-abbrev pub then_one : Option (ℕ × List ℕ) → Option (ℕ × ℕ)
-then_one None = None
-then_one (Some x) = before_one x.0 (one_of x.1)
-
-abbrev pub two_of : List ℕ → Option (ℕ × ℕ)
-two_of text = then_one (first_number text)
-
-abbrev pub before_two : ℕ → Option (ℕ × ℕ) → Option (ℕ × ℕ × ℕ)
-before_two n None = None
-before_two n (Some x) = Some (n, x.0, x.1)
-
-abbrev pub then_two : Option (ℕ × List ℕ) → Option (ℕ × ℕ × ℕ)
-then_two None = None
-then_two (Some x) = before_two x.0 (two_of x.1)
-
-abbrev pub three_of : List ℕ → Option (ℕ × ℕ × ℕ)
-three_of text = then_two (first_number text)
+abbrev pub numbers_of : ℕ → List ℕ → Option (List ℕ)
+numbers_of zero text = if_blank (trimmed_of text)
+numbers_of (suc n) text = then_more (numbers_of n) (first_number text)

@@ -1,8 +1,11 @@
 //! What a line of the tape says.
-ghost use Rattle.std.specs.Prelude.{◌≡◌};
+ghost use Rattle.std.specs.Prelude.{◌≡◌, Some};
 ghost use Rattle.tape.specs.Names.{name_of, form_of};
+ghost use Rattle.tape.specs.Messages.{trouble_words, refusal_words};
 
 use price::day::{Band, Session, Trade};
+use std::error::Error;
+use std::fmt;
 
 /// The words with which a line begins.
 #[derive(Clone, Copy, PartialEq, Eq, Debug)]
@@ -45,11 +48,17 @@ impl Keyword {
     }
 }
 
-/// What a line says.
+impl fmt::Display for Keyword {
+    ghost output = { λ keyword. Some (name_of keyword) };
+
+    fn fmt<W: fmt::Write>(&self, f: &mut fmt::Formatter<W>) -> fmt::Result {
+        f.write_str(self.name())
+    }
+}
+
+/// What a line says, unless it is a remark.
 #[derive(Clone, Copy)]
 pub enum Item {
-    /// A blank line, or one that begins with `#`.
-    Remark,
     Last(u64),
     Band(Band),
     Bid(u64),
@@ -69,6 +78,22 @@ pub enum Trouble {
     Again(Keyword),
 }
 
+impl fmt::Display for Trouble {
+    ghost output = { λ trouble. Some (trouble_words trouble) };
+
+    fn fmt<W: fmt::Write>(&self, f: &mut fmt::Formatter<W>) -> fmt::Result {
+        match *self {
+            Trouble::Keyword => f.write_str(
+                "a line begins with last, band, bid, ask, committee, trade or #",
+            ),
+            Trouble::Numbers(keyword) => write!(f, "expected {}", keyword.form()),
+            Trouble::Again(keyword) => write!(f, "there is a line with {keyword} before"),
+        }
+    }
+}
+
+impl Error for Trouble {}
+
 /// Why a tape is refused.
 #[derive(Clone, Copy, PartialEq, Eq, Debug)]
 pub enum Refusal {
@@ -80,8 +105,22 @@ pub enum Refusal {
     Memory,
 }
 
+impl fmt::Display for Refusal {
+    ghost output = { λ refusal. Some (refusal_words refusal) };
+
+    fn fmt<W: fmt::Write>(&self, f: &mut fmt::Formatter<W>) -> fmt::Result {
+        match *self {
+            Refusal::Line { line, trouble } => write!(f, "line {line}: {trouble}"),
+            Refusal::Missing(keyword) => write!(f, "no line with {keyword}"),
+            Refusal::Memory => f.write_str("no memory for the trades"),
+        }
+    }
+}
+
+impl Error for Refusal {}
+
 /// What is said once: all but the trades.
-#[derive(Clone, Copy)]
+#[derive(Clone, Copy, Default)]
 pub struct Header {
     pub last: Option<u64>,
     pub band: Option<Band>,

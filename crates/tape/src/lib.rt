@@ -5,8 +5,7 @@ ghost use Rattle.std.specs.Prelude.{◌≡◌};
 ghost use Rattle.tape.specs.Tapes.{Gives, Reads, finish};
 ghost use Rattle.tape.specs.declared.item.Refusal.TheVariants.{Memory};
 
-use crate::item::{Day, Header, Keyword, Refusal, Trouble};
-use crate::words::cut;
+use crate::item::{Day, Header, Keyword, Refusal};
 use price::day::{Session, Trade};
 use std::alloc::{AllocFailed, Global};
 
@@ -25,26 +24,20 @@ impl From<AllocFailed<Trade>> for Refusal {
 }
 
 /// The day that a tape tells of, or why it is refused: the first line that cannot be read, or what no line says.
-pub fn read_day(heap: Global, text: &[u8]) -> Result<Day, Refusal>
+pub fn read_day(alloc: Global, text: &[u8]) -> Result<Day, Refusal>
     ensures { Reads text.now result }
 {
-    let mut header = Header::NONE;
-    let mut trades = Vec::new(heap);
-    let mut rest = text;
-    let mut line = 1;
-    while !rest.is_empty() {
-        let (first, after) = cut(rest, NEWLINE);
-        match header.with_line(first) {
-            Err(trouble) => return Err(Refusal::Line { line, trouble }),
-            Ok((with, trade)) => {
-                header = with;
-                if let Some(trade) = trade {
-                    trades.push(trade)?;
-                }
-            }
+    let mut header = Header::default();
+    let mut trades = Vec::new(alloc);
+    for (i, line) in text.split(|b| *b == NEWLINE).enumerate() {
+        let (with, trade) = header.with_line(line).map_err(|trouble| Refusal::Line {
+            line: i as u64 + 1,
+            trouble,
+        })?;
+        if let Some(trade) = trade {
+            trades.push(trade)?;
         }
-        line += 1;
-        rest = after;
+        header = with;
     }
     finished(header, trades)
 }
@@ -53,15 +46,9 @@ pub fn read_day(heap: Global, text: &[u8]) -> Result<Day, Refusal>
 fn finished(header: Header, trades: Vec<Trade>) -> Result<Day, Refusal>
     ensures { Gives (finish header trades.items) result }
 {
-    let Some(last) = header.last else {
-        return Err(Refusal::Missing(Keyword::Last));
-    };
-    let Some(band) = header.band else {
-        return Err(Refusal::Missing(Keyword::Band));
-    };
     let session = Session {
-        last,
-        band,
+        last: header.last.ok_or(Refusal::Missing(Keyword::Last))?,
+        band: header.band.ok_or(Refusal::Missing(Keyword::Band))?,
         bid: header.bid,
         ask: header.ask,
         committee: header.committee,

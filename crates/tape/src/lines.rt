@@ -1,9 +1,9 @@
 //! One line of the tape.
 ghost use Rattle.std.specs.Prelude.{◌≡◌};
-ghost use Rattle.tape.specs.Lines.{keyword_of, item_by, item_of, once_of, noted, line_of};
+ghost use Rattle.tape.specs.Lines.{keyword_of, item_by, item_of, once_of, done, noted, traded, line_of};
 
 use crate::item::{Header, Item, Keyword, Trouble};
-use crate::words::{SPACE, cut, is_word, one, three, trimmed, two};
+use crate::words::{SPACE, cut, numbers, trimmed};
 use price::day::{Band, Trade};
 
 const KEYWORDS: [Keyword; 6] = [
@@ -19,101 +19,100 @@ impl Keyword {
     fn of(word: &[u8]) -> Option<Keyword>
         ensures { result ≡ keyword_of word.now }
     {
-        for keyword in &KEYWORDS {
-            if is_word(word, keyword.name()) {
-                return Some(*keyword);
-            }
-        }
-        None
+        KEYWORDS
+            .iter()
+            .find(|keyword| word == keyword.name().as_bytes())
+            .copied()
     }
 
     /// The item that the numbers after this keyword make.
-    fn item(self, numbers: &[u8]) -> Option<Item>
-        ensures { result ≡ item_by self numbers.now }
+    fn item(self, text: &[u8]) -> Option<Item>
+        ensures { result ≡ item_by self text.now }
     {
-        match self {
-            Keyword::Last => Some(Item::Last(one(numbers)?)),
-            Keyword::Band => {
-                let (low, high) = two(numbers)?;
-                Some(Item::Band(Band { low, high }))
+        let item = match self {
+            Keyword::Last => {
+                let [second] = numbers::<1>(text)?;
+                Item::Last(second)
             }
-            Keyword::Bid => Some(Item::Bid(one(numbers)?)),
-            Keyword::Ask => Some(Item::Ask(one(numbers)?)),
-            Keyword::Committee => Some(Item::Committee(one(numbers)?)),
+            Keyword::Band => {
+                let [low, high] = numbers::<2>(text)?;
+                Item::Band(Band { low, high })
+            }
+            Keyword::Bid => {
+                let [price] = numbers::<1>(text)?;
+                Item::Bid(price)
+            }
+            Keyword::Ask => {
+                let [price] = numbers::<1>(text)?;
+                Item::Ask(price)
+            }
+            Keyword::Committee => {
+                let [price] = numbers::<1>(text)?;
+                Item::Committee(price)
+            }
             Keyword::Trade => {
-                let (second, price, count) = three(numbers)?;
-                Some(Item::Trade(Trade {
+                let [second, price, count] = numbers::<3>(text)?;
+                Item::Trade(Trade {
                     second,
                     price,
                     count,
-                }))
+                })
             }
-        }
+        };
+        Some(item)
     }
 }
 
 impl Item {
-    fn of(line: &[u8]) -> Result<Item, Trouble>
+    /// The item of a line, or none where the line is blank or begins with `#`.
+    fn of(line: &[u8]) -> Result<Option<Item>, Trouble>
         ensures { result ≡ item_of line.now }
     {
         let text = trimmed(line);
-        if text.is_empty() || text[0] == b'#' {
-            return Ok(Item::Remark);
+        if text.first().is_none_or(|b| *b == b'#') {
+            return Ok(None);
         }
-        let (word, numbers) = cut(text, SPACE);
+        let (word, rest) = cut(text, SPACE);
         let keyword = Keyword::of(word).ok_or(Trouble::Keyword)?;
-        keyword.item(numbers).ok_or(Trouble::Numbers(keyword))
+        let item = keyword.item(rest).ok_or(Trouble::Numbers(keyword))?;
+        Ok(Some(item))
     }
 }
 
-/// What is said for the first time, and may not be said again.
-fn once<T: Drop>(said: Option<T>, now: T, keyword: Keyword) -> Result<Option<T>, Trouble>
-    ensures { result ≡ once_of said now keyword }
+/// Says for the first time what may not be said again.
+fn once<T: Copy>(said: &mut Option<T>, now: T, keyword: Keyword) -> Result<(), Trouble>
+    ensures { once_of said.old now keyword ≡ done (λ _. said.new) result }
 {
-    match said {
+    match said.replace(now) {
         Some(_) => Err(Trouble::Again(keyword)),
-        None => Ok(Some(now)),
+        None => Ok(()),
     }
 }
 
 impl Header {
-    pub(crate) const NONE: Header = Header {
-        last: None,
-        band: None,
-        bid: None,
-        ask: None,
-        committee: None,
-    };
-
-    fn with(self, item: Item) -> Result<Header, Trouble>
-        ensures { result ≡ noted self item }
+    /// What one item adds: to the header, or a trade.
+    fn with(self, item: Item) -> Result<(Header, Option<Trade>), Trouble>
+        ensures { result ≡ done (λ header. (header, traded item)) (noted self item) }
     {
         let mut header = self;
         match item {
-            Item::Remark | Item::Trade(_) => {}
-            Item::Last(second) => header.last = once(header.last, second, Keyword::Last)?,
-            Item::Band(band) => header.band = once(header.band, band, Keyword::Band)?,
-            Item::Bid(price) => header.bid = once(header.bid, price, Keyword::Bid)?,
-            Item::Ask(price) => header.ask = once(header.ask, price, Keyword::Ask)?,
-            Item::Committee(price) => header.committee = once(
-                header.committee,
-                price,
-                Keyword::Committee,
-            )?,
+            Item::Last(second) => once(&mut header.last, second, Keyword::Last)?,
+            Item::Band(band) => once(&mut header.band, band, Keyword::Band)?,
+            Item::Bid(price) => once(&mut header.bid, price, Keyword::Bid)?,
+            Item::Ask(price) => once(&mut header.ask, price, Keyword::Ask)?,
+            Item::Committee(price) => once(&mut header.committee, price, Keyword::Committee)?,
+            Item::Trade(trade) => return Ok((header, Some(trade))),
         }
-        Ok(header)
+        Ok((header, None))
     }
 
     /// What one line adds: to the header, or a trade.
     pub(crate) fn with_line(self, line: &[u8]) -> Result<(Header, Option<Trade>), Trouble>
         ensures { result ≡ line_of self line.now }
     {
-        let item = Item::of(line)?;
-        let header = self.with(item)?;
-        let trade = match item {
-            Item::Trade(trade) => Some(trade),
-            _ => None,
-        };
-        Ok((header, trade))
+        match Item::of(line)? {
+            Some(item) => self.with(item),
+            None => Ok((self, None)),
+        }
     }
 }

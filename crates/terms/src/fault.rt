@@ -1,6 +1,10 @@
 //! What is refused, and why.
-ghost use Rattle.std.specs.Prelude.{◌≡◌};
+ghost use Rattle.std.specs.Prelude.{◌≡◌, Some};
 ghost use Rattle.terms.specs.Faults.{layer_of, number_of, place_of};
+ghost use Rattle.terms.specs.Words.{layer_words, fault_words};
+
+use std::error::Error;
+use std::fmt;
 
 /// The part of the clearing that refuses.
 #[derive(Clone, Copy, PartialEq, Eq, Debug)]
@@ -9,6 +13,19 @@ pub enum Layer {
     Price,
     Book,
     Room,
+}
+
+impl fmt::Display for Layer {
+    ghost output = { λ layer. Some (layer_words layer) };
+
+    fn fmt<W: fmt::Write>(&self, f: &mut fmt::Formatter<W>) -> fmt::Result {
+        f.write_str(match self {
+            Layer::Sheet => "sheet",
+            Layer::Price => "price",
+            Layer::Book => "book",
+            Layer::Room => "room",
+        })
+    }
 }
 
 /// A refusal. Each case has its layer, its number and its place.
@@ -28,6 +45,7 @@ pub enum Fault {
     OutOfRange,
     /// Both parties are the same.
     SameParties { account: u32 },
+    // No Option for the trade: the place that is printed is 0 there too.
     /// The input of the settlement price is out of range: in the trade at this place, from 1, or outside the trades, 0.
     PriceInput { trade: u32 },
     /// No rule gives a settlement price.
@@ -126,3 +144,16 @@ impl Fault {
         }
     }
 }
+
+impl fmt::Display for Fault {
+    ghost output = { λ fault. Some (fault_words fault) };
+
+    fn fmt<W: fmt::Write>(&self, f: &mut fmt::Formatter<W>) -> fmt::Result {
+        let number = self.number();
+        let layer = self.layer();
+        let place = self.place();
+        write!(f, "refused: number {number}, layer {layer}, place {place}")
+    }
+}
+
+impl Error for Fault {}

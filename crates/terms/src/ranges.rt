@@ -1,10 +1,13 @@
 //! Numbers that are known to lie in their range.
-ghost use Rattle.std.specs.Prelude.{◌≡◌, ◌≤◌};
+ghost use Rattle.std.specs.Prelude.{◌≡◌, ◌-◌, ◌≤◌};
 ghost use Rattle.std.specs.Option.{option_map};
-ghost use Rattle.terms.specs.Ranges.{in_range};
+ghost use Rattle.std.specs.Result.{result_map_both};
+ghost use Rattle.terms.specs.Ranges.{in_range, tried};
+
+use crate::fault::Fault;
 
 /// A whole number from `LOW` to `HIGH`.
-#[derive(Clone, Copy, PartialEq, Eq, Debug)]
+#[derive(Clone, Copy, PartialEq, Eq, PartialOrd, Ord, Debug)]
 pub struct Ranged<const LOW: u64, const HIGH: u64> {
     value: u64,
     ghost low: { LOW ≤ value },
@@ -39,6 +42,7 @@ pub type BrokerNumber = Ranged<57, 63>;
 pub type SeriesNumber = Ranged<1, 24>;
 
 impl<const HIGH: u64> Ranged<0, HIGH> {
+    // No `Default`: none can be derived beside a stated fact, and by hand it would only say this again.
     /// The number 0.
     pub fn nought() -> Ranged<0, HIGH>
         ensures { result.value ≡ 0 }
@@ -52,7 +56,7 @@ impl<const LOW: u64, const HIGH: u64> Ranged<LOW, HIGH> {
     pub fn new(value: u64) -> Option<Self>
         ensures { option_map (λ x. x.value) result ≡ in_range LOW HIGH value }
     {
-        if LOW <= value && value <= HIGH {
+        if (LOW..=HIGH).contains(&value) {
             Some(Ranged { value })
         } else {
             None
@@ -71,5 +75,25 @@ impl<const LOW: u64, const HIGH: u64> Ranged<LOW, HIGH> {
         ensures { result.value ≡ self.entry.value }
     {
         Ranged { value: self.value }
+    }
+}
+
+impl<const HIGH: u64> Ranged<1, HIGH> {
+    /// Where a table that has a row for each number of this range keeps that of this one.
+    pub fn index(self) -> usize
+        ensures { result ≡ self.entry.value - 1 }
+    {
+        self.get() as usize - 1
+    }
+}
+
+/// A number out of the range is refused.
+impl<const LOW: u64, const HIGH: u64> TryFrom<u64> for Ranged<LOW, HIGH> {
+    type Error = Fault;
+
+    ghost try_from_gives = { λ value result. result_map_both (λ x. x.value) (λ fault. fault) result ≡ tried LOW HIGH value };
+
+    fn try_from(value: u64) -> Result<Self, Fault> {
+        Ranged::new(value).ok_or(Fault::OutOfRange)
     }
 }

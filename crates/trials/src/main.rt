@@ -3,7 +3,6 @@
 
 use crate::asked::{deposit, enrol, force, list, mark, trade};
 use crate::trial::Trial;
-use anyhow::anyhow;
 use book::{Book, TableBook};
 use margin::flat::Flat;
 use margin::tariff::Tariff;
@@ -124,9 +123,7 @@ fn worked_calls(trial: &mut Trial<'_, '_>, rt: &HostRuntime) -> anyhow::Result<(
             ("notices", Call::Notices),
         ],
     )?;
-    let Ok(owed) = trial.owed(1) else {
-        return Err(anyhow!("customer 1 is not under notice"));
-    };
+    let owed = trial.owed(1)?;
     println!(rt; "      customer 1 owes {owed}")?;
     trial.make(
         rt,
@@ -154,10 +151,7 @@ fn worked_day(rt: &HostRuntime, rule: &Flat) -> anyhow::Result<()> {
 }
 
 fn main(rt: HostRuntime) -> anyhow::Result<()> {
-    let Ok(tariff) = Tariff::new(5_000, 3_500) else {
-        return Err(anyhow!("no such tariff"));
-    };
-    let rule = Flat::uniform(tariff);
+    let rule = Flat::uniform(Tariff::new(5_000, 3_500)?);
     called_twice(&rt, &rule)?;
     at_the_minimum(&rt, &rule)?;
     worked_day(&rt, &rule)?;

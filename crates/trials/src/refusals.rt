@@ -1,7 +1,6 @@
 //! Every refusal that a room can give, with its place. Only 31 is not here: no book yet takes lines.
 use crate::asked::{cover, deposit, end, enrol, force, list, mark, trade, withdraw};
 use crate::trial::Trial;
-use anyhow::anyhow;
 use book::{Book, TableBook};
 use margin::flat::Flat;
 use std::io;
@@ -145,9 +144,7 @@ pub fn of_full_balance(rt: &HostRuntime, rule: &Flat) -> anyhow::Result<()> {
 pub fn of_begin(rt: &HostRuntime, rule: &Flat) -> anyhow::Result<()> {
     println!(rt; "A book that is not empty")?;
     let mut book = TableBook::new();
-    if book.post(3, 5).is_err() {
-        return Err(anyhow!("the book takes no posting"));
-    }
+    book.post(3, 5)?;
     let mut trial = Trial::new(&mut book, rule);
     trial.make(rt, &[("begin, account 3 has 5", Call::Begin)])?;
     Ok(())

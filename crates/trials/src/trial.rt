@@ -1,5 +1,4 @@
 //! A room under trial: calls are made in their order, and each is printed with its answer.
-use anyhow::anyhow;
 use book::TableBook;
 use clearing::Room;
 use margin::flat::Flat;
@@ -10,13 +9,13 @@ use terms::fault::Fault;
 /// A room over a table book and the flat rule, and how many calls were made on it.
 #[derive(Drop)]
 pub struct Trial<'b, 'r> {
-    room: Room<'b, 'r, 0, TableBook, Flat>,
-    made: u32,
+    room: Room<'b, 'r, TableBook, Flat>,
+    made: usize,
 }
 
 fn print_answer(
     rt: &HostRuntime,
-    number: u32,
+    number: usize,
     what: &str,
     answer: Result<Answer, Fault>,
 ) -> io::Result<()> {
@@ -51,20 +50,17 @@ impl<'b, 'r> Trial<'b, 'r> {
     }
 
     /// Makes one call so many times, as long as it is accepted, and says how often it was.
-    pub fn repeat(&mut self, call: Call, times: u32) -> u32 {
-        let mut accepted = 0u32;
-        for _ in 0..times {
-            if self.room.make(call).is_err() {
-                break;
-            }
-            accepted = accepted.saturating_add(1);
-        }
+    pub fn repeat(&mut self, call: Call, times: usize) -> usize {
+        let accepted = (0..times)
+            .take_while(|_| self.room.make(call).is_ok())
+            .count();
         self.made = self.made.saturating_add(accepted);
         accepted
     }
 
     /// What a customer under notice owes. One that is not cannot be forced, and so it is refused here.
     pub fn owed(&self, customer: u32) -> Result<i64, Fault> {
+        // Taken apart here, since whoever owes nothing has no amount, not even 0.
         let Some(owed) = self.room.standing(customer)?.owed else {
             return Err(Fault::NothingToForce { account: customer });
         };
@@ -73,18 +69,14 @@ impl<'b, 'r> Trial<'b, 'r> {
 
     /// Prints a customer's balance and both margins, and what it owes, if it is under notice.
     pub fn print_standing(&self, rt: &HostRuntime, customer: u32) -> anyhow::Result<()> {
-        let Ok(standing) = self.room.standing(customer) else {
-            return Err(anyhow!("no such customer"));
-        };
-        let balance = standing.balance;
-        let initial = standing.initial;
-        let minimum = standing.minimum;
+        let standing = self.room.standing(customer)?;
         print!(rt;
-            "      customer {customer}: balance {balance}, margins {initial} and {minimum}"
+            "      customer {customer}: balance {}, margins {} and {}",
+            standing.balance, standing.initial, standing.minimum
         )?;
-        match self.owed(customer) {
-            Ok(owed) => println!(rt; ", owes {owed}")?,
-            Err(_) => println!(rt; ", not under notice")?,
+        match standing.owed {
+            Some(owed) => println!(rt; ", owes {owed}")?,
+            None => println!(rt; ", not under notice")?,
         }
         Ok(())
     }

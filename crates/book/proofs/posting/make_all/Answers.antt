@@ -21,8 +21,8 @@ returns-in_err-post g c =
     let b = c.loop-i.book in
     let fits : SFits w64 a = search rules in
     let p = c.in_err-post.ensures in
-    let told : Err c.in_err-post.field-0.0 ≡ post_answer (m.balances b) (m.lines b) g.row.N (i + 1) a = simp to_z-of_z at p.answer in
-    let ok = accepted (m.balances b₀) ms (m.lines b₀) g.row.N c.told-amounts i c.loop-i-test.true
+    let told : Err c.in_err-post.field-0.0 ≡ post_answer (m.balances b) (m.lines b) g.B.Book.COST (i + 1) a = simp to_z-of_z at p.answer in
+    let ok = accepted (m.balances b₀) ms (m.lines b₀) g.B.Book.COST c.told-amounts i c.loop-i-test.true
     (m.laws.accounts b₀) c.requires.inside c.requires.paid
     (m.balances b) (m.lines b) c.loop-i.invariant.0 (nonzero a c.if-amount-ne0.true) in
     let z : ◌≡◌ {A = ℕ} 0 1 = cc in
@@ -43,17 +43,17 @@ loop-i-preserved g c =
       | then-amount-ne0+in_ok-post w ↦
           let p = w.in_ok-post.ensures in
           let after : m.balances b' ≡ posted_to (m.balances b) (i + 1) a = ap m.balances w.book-is ∙ simp to_z-of_z at p.after in
-          let spent : m.lines b' ≡ m.lines b - g.row.N = cc (w.book-is, p.spent) in
-          let next = posted (m.balances b₀) ms (m.lines b₀) g.row.N c.told-amounts i c.loop-i-test.true
+          let spent : m.lines b' ≡ m.lines b - g.B.Book.COST = cc (w.book-is, p.spent) in
+          let next = posted (m.balances b₀) ms (m.lines b₀) g.B.Book.COST c.told-amounts i c.loop-i-test.true
           (m.laws.accounts b₀) c.requires.inside c.requires.paid
           (m.balances b) (m.lines b) inv.0 (nonzero a w.if-amount-ne0.true)
           (m.balances b') (m.lines b') after spent in
           (next, m.laws.joins b₀ b b' inv.1 (subst (m.kept b) (sym w.book-is) p.place))
       | else-amount-ne0 w ↦
-          let next = passed (m.balances b₀) ms (m.lines b₀) g.row.N c.told-amounts i c.loop-i-test.true
+          let next = passed (m.balances b₀) ms (m.lines b₀) g.B.Book.COST c.told-amounts i c.loop-i-test.true
           (m.balances b) (m.lines b) inv.0
           (is_zero a fits w.if-amount-ne0.false) in
-          (subst (λ x. Made (m.balances b₀) (m.lines b₀) g.row.N ms (i + 1) (m.balances x) (m.lines x)) (sym w.book-is) next, subst (m.kept b₀) (sym w.book-is) inv.1)
+          (subst (λ x. Made (m.balances b₀) (m.lines b₀) g.B.Book.COST ms (i + 1) (m.balances x) (m.lines x)) (sym w.book-is) next, subst (m.kept b₀) (sym w.book-is) inv.1)
     ]
 
 pub returns : goal.returns
@@ -66,7 +66,7 @@ returns g c =
     let long = m.laws.accounts b₀ in
     let whole : take c.loop-i.i ms ≡ ms = take_all c.loop-i.i ms (omega arith) in
     let sums : m.balances b ≡ added (m.balances b₀) ms = made.added_so_far ∙ ap (added (m.balances b₀)) whole in
-    let taken : m.lines b + g.row.N * postings ms ≡ m.lines b₀ = ap (λ l. m.lines b + g.row.N * postings l) (sym whole) ∙ made.taken_so_far in
+    let taken : m.lines b + g.B.Book.COST * postings ms ≡ m.lines b₀ = ap (λ l. m.lines b + g.B.Book.COST * postings l) (sym whole) ∙ made.taken_so_far in
     record {
       made = refl;
       after = sums;

@@ -11,5 +11,5 @@ returns c =
     let small = c.requires in
     let in_full : to_z w64 a ≡ pos a = omega (arith, ints) in
     let back : to_z w64 (of_z w64 (pos 0 -ℤ to_z w64 a)) ≡ neg_ℤ (pos a) = omega (arith, ints) in
-    (λ i. set (set zeros (c.get.ensures i - 1) (back i)) (c.get-2.ensures i - 1) (in_full i))
+    (λ i. set (set zeros (c.get.ensures i - 1) (back i)) (c.index.ensures i) (in_full i))
     ∙ transfer_set from.value to.value a from.low from.high to.low to.high

@@ -15,8 +15,8 @@ loop-at-preserved c =
     let h : i < 56 = omega (arith, c.loop-at-test.true) in
     let x = series_of c.args.series.now in
     let g : ℕ → ℤ = λ n. get_or (customer_at c.args.customers.now n).positions (c.args.number.value - 1) (pos 0) *ℤ pos x.size *ℤ (pos c.args.price.value -ℤ pos x.price) in
-    let row = read customer_of c.args.customers.now.table.rows i (i + 1 - 1) c.index-customers-at.result no_customer (omega (arith, c.args.customers.now.all)) (omega arith) in
-    let held = c.get-position.ensures ∙ ap (λ x. get_or x.positions (c.args.number.value - 1) (pos 0)) row in
+    let row = read customer_of c.args.customers.now.rows i (i + 1 - 1) c.customer-item.result no_customer (omega (arith, c.args.customers.now.all)) (omega arith) in
+    let held = c.get.ensures ∙ ap (λ x. get_or x.positions (c.args.number.value - 1) (pos 0)) row in
     let is =
     to_z-of_z w64 c.revalued.result (record { sfits = c.revalued.type_inv }) ∙ c.revalued.ensures
     ∙ ap (λ z. z *ℤ pos x.size *ℤ (pos c.args.price.value -ℤ pos x.price)) held

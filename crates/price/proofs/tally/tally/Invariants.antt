@@ -6,6 +6,6 @@ use Rattle.price.proofs.tally.tally.Given as goal
 
 abbrev pub invariant-loop-i : goal.invariant-loop-i
 invariant-loop-i l =
-    (first_unfit l.last (l.i + 1) (drop l.i l.trades) ≡ first_unfit l.last 1 l.trades)
-    × SumsOf l.last (take l.i l.trades) l.sums
+    (first_unfit l.last.value (l.i + 1) (drop l.i l.trades) ≡ first_unfit l.last.value 1 l.trades)
+    × SumsOf l.last.value (take l.i l.trades) l.sums
     × Few l.i l.sums

@@ -1,34 +1,29 @@
-use Rattle.std.proofs.Common.{◌+◌, length, get_or, take, ap, ◌∙◌, arith}
-use native.Mathlib.Nat.{sub-zero}
-use Rattle.std.proofs.lemmas.List.{take_rest, drop_all}
-use Rattle.std.proofs.lemmas.Bool.{eq-eqb, ne_eqb}
-use Rattle.tape.proofs.Steps.{sought_on, found_front, found_rest, lost_front, lost_rest}
+use Rattle.std.proofs.Common.{ℕ, eqb, take, drop, sym, ap, ◌+◌, ◌∙◌, subst, rules, tests, arith}
+use Rattle.std.proofs.lemmas.Iterator.{YieldsList-from_slice}
+use Rattle.std.proofs.lemmas.Iterator.Search.{position_from_yields_List}
+use Rattle.std.proofs.lemmas.List.{take_rest, take_all, drop_all}
+use Rattle.tape.proofs.Cuts.{Sought, found, lost}
 use Rattle.tape.proofs.words.cut.Goals as goal
 
-pub returns-then-b-at : goal.returns-then-b-at
-returns-then-b-at c =
+pub returns-in-Some : goal.returns-in-Some
+returns-in-Some c =
     let text = c.args.text.now in
-    let i = c.loop-i.i in
-    let at = c.args.at in
-    let within = c.loop-i-test.true in
-    let here = eq-eqb (get_or text i 0) at (omega arith) in
+    let i = c.in-Some.i in
+    let is_at = λ (b : ℕ). eqb b c.args.at in
+    let sought = position_from_yields_List is_at _ _ c.position.result c.position.ensures.ran (YieldsList-from_slice text cc) (λ x b q k. search (rules, tests)) in
+    let there = found is_at text i (subst (Sought is_at text) c.in-Some.is sought) in
     record {
-      before = ap (λ n. take n text) (sub-zero i) ∙ found_front at i text within c.loop-i.invariant here;
-      after = take_rest text (i + 1) ∙ found_rest at i text within c.loop-i.invariant here;
+      before = ap (λ n. take n text) there;
+      after = take_rest text (i + 1) ∙ ap (λ n. drop (n + 1) text) there;
     }
 
-pub loop-i-preserved : goal.loop-i-preserved
-loop-i-preserved c =
+pub returns-in-None : goal.returns-in-None
+returns-in-None c =
     let text = c.args.text.now in
-    let i = c.loop-i.i in
-    sought_on c.args.at i text c.loop-i-test.true c.loop-i.invariant (ne_eqb (get_or text i 0) c.args.at (omega arith))
-
-pub returns : goal.returns
-returns c =
-    let text = c.args.text.now in
-    let i = c.loop-i.i in
-    let all = c.loop-i-test.false in
+    let is_at = λ (b : ℕ). eqb b c.args.at in
+    let sought = position_from_yields_List is_at _ _ c.position.result c.position.ensures.ran (YieldsList-from_slice text cc) (λ x b q k. search (rules, tests)) in
+    let past = lost is_at text (subst (Sought is_at text) c.in-None.is sought) in
     record {
-      before = lost_front c.args.at i text all c.loop-i.invariant;
-      after = take_rest text (length text) ∙ drop_all (length text) text (omega arith) ∙ lost_rest c.args.at i text all c.loop-i.invariant;
+      before = sym (take_all _ text past);
+      after = sym (drop_all _ text (omega arith));
     }

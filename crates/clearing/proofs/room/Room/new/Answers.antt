@@ -10,7 +10,7 @@ returns g c =
     let b = c.args.book.now in
     let e = c.new.ensures in
     record {
-      run = subst (Run []) (sym e.state) (runs_exist.begins (g.B.Book.balances b) (g.B.Book.lines b) g.row.N (g.R.MarginRule.asked c.args.rule.now) (g.B.Book.laws.accounts b) (g.R.MarginRule.laws c.args.rule.now));
+      run = subst (Run []) (sym e.state) (runs_exist.begins (g.B.Book.balances b) (g.B.Book.lines b) g.B.Book.COST (g.R.MarginRule.asked c.args.rule.now) (g.B.Book.laws.accounts b) (g.R.MarginRule.laws c.args.rule.now));
       book = e.book;
       lent = e.lent;
       rule = e.rule;

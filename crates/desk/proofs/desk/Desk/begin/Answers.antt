@@ -1,16 +1,7 @@
-use Rattle.std.proofs.Common.{refl, rules}
+use Rattle.std.proofs.Common.{refl}
 use Rattle.terms.specs.declared.call.Call.TheVariants.{Begin}
-use Rattle.desk.specs.Views.{state}
-use Rattle.desk.proofs.Quiet.{quiet}
+use Rattle.desk.proofs.Served.{quietly}
 use Rattle.desk.proofs.desk.Desk.begin.Goals as goal
 
 pub returns : goal.returns
-returns g c =
-    let s = state g.B.Book g.R.MarginRule c.args.self.now in
-    let b = c.args.self.now.book.now in
-    record {
-      moves = quiet s Begin (g.B.Book.laws.bounded b) c.in_ok-check_begin.ensures.0 refl _ _ refl refl;
-      lent = refl;
-      place = g.B.Book.laws.stays b;
-      same = search rules;
-    }
+returns g c = quietly g.B.Book g.R.MarginRule c.args.self.now Begin c.in_ok-check_begin.ensures.0 refl 0 refl _ refl _ refl

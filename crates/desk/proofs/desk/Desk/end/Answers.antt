@@ -1,20 +1,14 @@
-use Rattle.std.proofs.Common.{◌≡◌, refl, ap, rules}
+use Rattle.std.proofs.Common.{◌≡◌, refl}
 use Rattle.terms.specs.declared.call.Call.TheVariants.{Final}
 use Rattle.steps.specs.Steps.{posts}
 use Rattle.desk.specs.Views.{state}
-use Rattle.desk.proofs.Steps.{same_desk, refused, declined, done}
 use Rattle.desk.proofs.Marks.{mark_posts, ended, closed}
+use Rattle.desk.proofs.Served.{turned_away, unposted, posted}
 use Rattle.desk.proofs.desk.Desk.end.Goals as goal
 
 pub returns-in_err-number : goal.returns-in_err-number
 returns-in_err-number g c =
-    let s = state g.B.Book g.R.MarginRule c.args.self.now in
-    record {
-      moves = refused s (Final c.args.series c.args.price) _ c.from_residual.result c.from_residual.ensures.1 c.in_err-number.ensures;
-      lent = refl;
-      place = g.B.Book.laws.stays _;
-      same = λ _. refl;
-    }
+    turned_away g.B.Book g.R.MarginRule c.args.self.now (Final c.args.series c.args.price) _ c.from_residual.result c.from_residual.ensures.1 c.in_err-number.ensures
 
 pub returns-in_err-post_all : goal.returns-in_err-post_all
 returns-in_err-post_all g c =
@@ -24,13 +18,7 @@ returns-in_err-post_all g c =
     let a = c.in_err-post_all.ensures in
     let r = c.from_residual-in_err-post_all in
     let p : c.for_holders-amounts.result ≡ posts s call = mark_posts s h.1.0 h.1.1 call _ c.get.ensures c.for_holders-amounts.ensures refl in
-    let d = same_desk c.args.self.now c.post_all.new.book (a.whole refl) in
-    record {
-      moves = declined s call h.0 c.for_holders-amounts.result p _ _ r.result r.ensures.1 a.answer (ap (state g.B.Book g.R.MarginRule) d);
-      lent = refl;
-      place = a.place;
-      same = λ _. d;
-    }
+    unposted g.B.Book g.R.MarginRule c.args.self.now call h.0 c.for_holders-amounts.result p _ (a.whole refl) a.place _ r.result r.ensures.1 a.answer
 
 pub returns : goal.returns
 returns g c =
@@ -39,9 +27,4 @@ returns g c =
     let h = c.in_ok-number.ensures in
     let a = c.in_ok-post_all.ensures in
     let p : c.for_holders-amounts.result ≡ posts s call = mark_posts s h.1.0 h.1.1 call _ c.get.ensures c.for_holders-amounts.ensures refl in
-    record {
-      moves = done s call h.0 c.for_holders-amounts.result p _ _ _ _ a.answer (closed s h.1.0 h.1.1 c.close_out.ensures) (ended s h.1.0 h.1.1 c.end.ensures) a.after a.spent;
-      lent = refl;
-      place = a.place;
-      same = search rules;
-    }
+    posted g.B.Book g.R.MarginRule c.args.self.now call h.0 c.for_holders-amounts.result p _ a.answer a.after a.spent a.place 0 refl c.close_out.new.self (closed s h.1.0 h.1.1 c.close_out.ensures) c.end.new.self (ended s h.1.0 h.1.1 c.end.ensures)

@@ -1,40 +1,27 @@
-use Rattle.std.proofs.Common.{refl, ap, ◌∙◌, rules}
+use Rattle.std.proofs.Common.{refl, ap, ◌∙◌}
 use Rattle.terms.specs.declared.call.Call.TheVariants.{Force}
 use Rattle.steps.specs.Deals.{forced}
 use Rattle.steps.specs.Steps.{posts}
 use Rattle.desk.specs.Bargains.{deal_of, deal_posts, struck}
 use Rattle.desk.specs.Views.{state}
-use Rattle.desk.proofs.Bargains.{unstruck, strikes}
+use Rattle.desk.proofs.Served.{turned_away, unstruck, strikes}
 use Rattle.desk.proofs.Forced.{closing_count}
-use Rattle.desk.proofs.Steps.{refused}
 use Rattle.desk.proofs.desk.Desk.force.Goals as goal
 
 pub returns-in_err-bargain : goal.returns-in_err-bargain
 returns-in_err-bargain g c =
-    let s = state g.B.Book g.R.MarginRule c.args.self.now in
     let a = c.args in
-    record {
-      moves = refused s (Force a.customer a.counterparty a.series a.offer a.price) _ c.from_residual.result c.from_residual.ensures.1 c.in_err-bargain.ensures;
-      lent = refl;
-      place = g.B.Book.laws.stays _;
-      same = λ _. refl;
-    }
+    turned_away g.B.Book g.R.MarginRule a.self.now (Force a.customer a.counterparty a.series a.offer a.price) _ c.from_residual.result c.from_residual.ensures.1 c.in_err-bargain.ensures
 
 pub returns-in_err-strike : goal.returns-in_err-strike
 unfolding posts
 returns-in_err-strike g c =
-    let s = state g.B.Book g.R.MarginRule c.args.self.now in
     let a = c.args in
     let h = c.in_ok-bargain.ensures in
     let k = c.in_err-strike.ensures in
     let r = c.from_residual-in_err-strike in
-    let d = deal_of c.in_ok-bargain.bargain in
-    record {
-      moves = unstruck s (Force a.customer a.counterparty a.series a.offer a.price) d h.0 (ap (deal_posts s) h.1.0) _ _ r.result r.ensures.1 k.strikes.0 k.strikes.1;
-      lent = k.lent;
-      place = k.place;
-      same = λ _. k.same refl;
-    }
+    let p = ap (deal_posts (state g.B.Book g.R.MarginRule a.self.now)) h.1.0 in
+    unstruck g.B.Book g.R.MarginRule a.self.now (Force a.customer a.counterparty a.series a.offer a.price) (deal_of c.in_ok-bargain.bargain) h.0 p c.strike.new.self k.lent k.place _ r.result r.ensures.1 k.strikes (k.same refl)
 
 pub returns : goal.returns
 unfolding posts
@@ -43,12 +30,5 @@ returns g c =
     let a = c.args in
     let h = c.in_ok-bargain.ensures in
     let k = c.in_ok-strike.ensures in
-    let d = deal_of c.in_ok-bargain.bargain in
-    let q = strikes s (Force a.customer a.counterparty a.series a.offer a.price) d h.0 (ap (deal_posts s) h.1.0) _ k.strikes.0 k.strikes.1 (ap (struck s) h.1.0) in
     let count = closing_count s a.customer a.counterparty a.series (forced s a.customer a.series a.offer a.price) a.price in
-    record {
-      moves = (q.0, c.get.ensures ∙ ap (λ d. d.count) h.1.0 ∙ count, q.2);
-      lent = k.lent;
-      place = k.place;
-      same = search rules;
-    }
+    strikes g.B.Book g.R.MarginRule a.self.now (Force a.customer a.counterparty a.series a.offer a.price) (deal_of c.in_ok-bargain.bargain) h.0 (ap (deal_posts s) h.1.0) c.strike.new.self k.lent k.place k.strikes (ap (struck s) h.1.0) _ (c.get.ensures ∙ ap (λ d. d.count) h.1.0 ∙ count)

@@ -1,16 +1,10 @@
-use Rattle.std.proofs.Common.{refl, rules}
+use Rattle.std.proofs.Common.{refl, ◌∷◌, [], ap}
 use Rattle.terms.specs.declared.call.Call.TheVariants.{Shut}
-use Rattle.desk.specs.Views.{state}
-use Rattle.desk.proofs.Quiet.{quiet}
+use Rattle.steps.specs.Refusals.{first}
+use Rattle.desk.proofs.Served.{quietly}
 use Rattle.desk.proofs.desk.Desk.shut.Goals as goal
 
 pub returns : goal.returns
 returns g c =
-    let s = state g.B.Book g.R.MarginRule c.args.self.now in
-    let b = c.args.self.now.book.now in
-    record {
-      moves = quiet s Shut (g.B.Book.laws.bounded b) c.in_ok-check_shut.ensures.0 refl _ _ refl refl;
-      lent = refl;
-      place = g.B.Book.laws.stays b;
-      same = search rules;
-    }
+    let e = ap (λ o. first (o ∷ [])) c.in_ok-in_phase.ensures.0 in
+    quietly g.B.Book g.R.MarginRule c.args.self.now Shut e refl 0 refl _ refl _ refl

@@ -1,7 +1,0 @@
-use Rattle.std.proofs.Common.{◌≡◌, ◌-◌}
-use Rattle.steps.specs.Margins.{asks}
-use Rattle.tables.specs.Views.{all_series_of}
-use Rattle.exposure.proofs.margins.margins.Given as goal
-
-abbrev pub invariant-loop-n : goal.invariant-loop-n
-invariant-loop-n g l = l.all ≡ asks (g.R.MarginRule.asked l.rule) (all_series_of l.series) l.positions.held (l.n - 1)

@@ -1,0 +1,4 @@
+use Rattle.life.proofs.rials.+write_groups.Given as goal
+
+abbrev pub decreases-write_groups : goal.decreases-write_groups
+decreases-write_groups g l = l.amount

@@ -1,8 +1,0 @@
-use Rattle.std.proofs.Common.{◌≡◌, ◌++◌, map, take, drop}
-use Rattle.steps.specs.Steps.{cleared}
-use Rattle.tables.specs.Views.{series_of}
-use Rattle.tables.proofs.listings.clear_marks.Given as goal
-
-abbrev pub invariant-loop-series : goal.invariant-loop-series
-invariant-loop-series l =
-    map series_of l.all ≡ map cleared (take l.series-index (map series_of l.initial.all)) ++ drop l.series-index (map series_of l.initial.all)
