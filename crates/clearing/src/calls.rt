@@ -23,7 +23,8 @@ impl<'b, 'r, B: Book, R: MarginRule> Room<'b, 'r, B, R> {
         self.make(Call::Enrol { customer, broker })
     }
 
-    // Here and below the numbers come one by one, as they stand on a line: a struct would only be taken apart again.
+    // Here and below the numbers come one by one, as they stand on a line: a struct would only be taken apart again. And each
+    // method says `Made` of its own call: that is its promise, and nothing that a type could hold.
     /// Opens a series, for the only time; its price stands.
     pub fn list(
         &mut self,

@@ -25,7 +25,8 @@ impl<'b, 'r, B: Book, R: MarginRule> Desk<'b, 'r, B, R> {
         ensures count { result ≡ count_by (freed (state B.Book R.MarginRule self.old)) (range_with_len 1 customers) }
         ensures book { self.new.book ≡ self.old.book }
     {
-        // Made here, and not by `valuation`, which would borrow the customers too.
+        // Made here and in `notices`, and not by `valuation`, which would borrow the customers too; a method for the two calls
+        // would say again what `turn_notices` says.
         let valuation = Valuation {
             rule: self.rule,
             series: &self.series,

@@ -13,6 +13,7 @@ use crate::desk::Desk;
 use book::Book;
 use exposure::margins::Valuation;
 use margin::rule::MarginRule;
+use std::ops::RangeBounds;
 use steps::{Phase, Stage};
 use tables::series::Series;
 use terms::fault::Fault;
@@ -23,7 +24,7 @@ impl<'b, 'r, B: Book, R: MarginRule> Desk<'b, 'r, B, R> {
     pub(crate) fn in_phase(&self, phases: (Phase, Phase)) -> Result<(), Fault>
         ensures { Granted result (refuse (not (in_phase (state B.Book R.MarginRule self.now) (phase_number phases.0, phase_number phases.1))) WrongPhase) (λ _. Unit {0}) }
     {
-        if phases.0 <= self.phase && self.phase <= phases.1 {
+        if (phases.0..=phases.1).contains(&self.phase) {
             Ok(())
         } else {
             Err(Fault::WrongPhase)
@@ -77,7 +78,8 @@ impl<'b, 'r, B: Book, R: MarginRule> Desk<'b, 'r, B, R> {
         }
     }
 
-    // That a series is listed and has not ended.
+    // That a series is listed and has not ended. `never_listed` asks for another stage: one function of a stage would have to
+    // compare stages in its clause, where the clearing steps say `is_open` and `ever_listed`.
     pub(crate) fn deals_in(&self, series: SeriesNumber) -> Result<(), Fault>
         ensures { Granted result (not_open (state B.Book R.MarginRule self.now) series.value) (λ _. Unit {0}) }
     {

@@ -45,13 +45,12 @@ impl<'b, 'r, B: Book, R: MarginRule> Desk<'b, 'r, B, R> {
         let row = self.customers.get(customer);
         let held = row.positions.get(series);
         let limit = self.series.get(series).limit.get();
-        match held.moved(by) {
-            Some(after) if closes(held, by) || after.count() <= limit => Ok(after),
-            // No limit is above what a position can hold.
-            _ => Err(Fault::PastLimit {
+        // No limit is above what a position can hold.
+        held.moved(by)
+            .filter(|after| closes(held, by) || after.count() <= limit)
+            .ok_or(Fault::PastLimit {
                 account: customer.get() as u32,
-            }),
-        }
+            })
     }
 
     // That a party's balance reaches the initial margin of its positions once the deal is made, unless it closes.

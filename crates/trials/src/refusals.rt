@@ -1,4 +1,4 @@
-//! Every refusal that a room can give, with its place. Only 31 is not here: no book yet takes lines.
+//! Every refusal that a room can give, with its place. Only 31 is not here: a table book takes no lines.
 use crate::asked::{cover, deposit, end, enrol, force, list, mark, trade, withdraw};
 use crate::trial::Trial;
 use book::{Book, TableBook};

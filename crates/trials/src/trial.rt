@@ -60,7 +60,7 @@ impl<'b, 'r> Trial<'b, 'r> {
 
     /// What a customer under notice owes. One that is not cannot be forced, and so it is refused here.
     pub fn owed(&self, customer: u32) -> Result<i64, Fault> {
-        // Taken apart here, since whoever owes nothing has no amount, not even 0.
+        // By `let .. else`, the project's form for an amount that may not be owed.
         let Some(owed) = self.room.standing(customer)?.owed else {
             return Err(Fault::NothingToForce { account: customer });
         };
