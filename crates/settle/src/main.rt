@@ -1,10 +1,13 @@
 //! The settlement price of a day: reads its tape from standard input, prints the price and its rule.
 #![tactic(auto)]
 
+use crate::report::Report;
 use price::settlement_price;
 use std::io::Read;
 use std::process::ExitCode;
 use tape::read_day;
+
+mod report;
 
 // Prints the one message itself, after the program's name: an `Err` from `main` would be printed otherwise.
 fn main(rt: HostRuntime) -> ExitCode {
@@ -24,9 +27,7 @@ fn run(rt: &HostRuntime) -> anyhow::Result<()> {
     rt.stdin().read_to_end(&mut text)?;
     let day = read_day(alloc, text.as_slice())?;
     println!(rt; "trades: {}", day.trades.len())?;
-    match settlement_price(day.trades.as_slice(), &day.session) {
-        Ok(settlement) => println!(rt; "{settlement}")?,
-        Err(fault) => println!(rt; "{fault}")?,
-    }
+    let answer = settlement_price(day.trades.as_slice(), &day.session);
+    println!(rt; "{}", Report { answer })?;
     Ok(())
 }
