@@ -73,6 +73,10 @@ traded (item.Ask n) = None
 traded (item.Committee n) = None
 traded (item.Trade t) = Some t
 
+-- a trade, or none, beside the header as it is then
+abbrev pub beside : Header → Result (Option Trade) Trouble → Result (Header × Option Trade) Trouble
+beside h r = done (λ o. (h, o)) r
+
 -- what one line adds: to the header, or a trade
 abbrev pub added : Header → Result (Option Item) Trouble → Result (Header × Option Trade) Trouble
 added h (Err t) = Err t

@@ -30,14 +30,13 @@ pub fn read_day(alloc: Global, text: &[u8]) -> Result<Day, Refusal>
     let mut header = Header::default();
     let mut trades = Vec::new(alloc);
     for (i, line) in text.split(|b| *b == NEWLINE).enumerate() {
-        let (with, trade) = header.with_line(line).map_err(|trouble| Refusal::Line {
+        let trade = header.note_line(line).map_err(|trouble| Refusal::Line {
             line: i as u64 + 1,
             trouble,
         })?;
         if let Some(trade) = trade {
             trades.push(trade)?;
         }
-        header = with;
     }
     finished(header, trades)
 }

@@ -1,6 +1,6 @@
 //! One line of the tape.
-ghost use Rattle.std.specs.Prelude.{◌≡◌};
-ghost use Rattle.tape.specs.Lines.{keyword_of, item_by, item_of, once_of, done, noted, traded, line_of};
+ghost use Rattle.std.specs.Prelude.{◌≡◌, Some, Ok};
+ghost use Rattle.tape.specs.Lines.{keyword_of, item_by, item_of, once_of, done, beside, added, line_of};
 
 use crate::item::{Header, Item, Keyword, Trouble};
 use crate::words::{SPACE, cut, numbers, trimmed};
@@ -90,29 +90,28 @@ fn once<T: Copy>(said: &mut Option<T>, now: T, keyword: Keyword) -> Result<(), T
 }
 
 impl Header {
-    /// What one item adds: to the header, or a trade.
-    fn with(self, item: Item) -> Result<(Header, Option<Trade>), Trouble>
-        ensures { result ≡ done (λ header. (header, traded item)) (noted self item) }
+    /// Notes what one item says: in the header, or it is a trade.
+    fn note(&mut self, item: Item) -> Result<Option<Trade>, Trouble>
+        ensures { beside self.new result ≡ added self.old (Ok (Some item)) }
     {
-        let mut header = self;
         match item {
-            Item::Last(second) => once(&mut header.last, second, Keyword::Last)?,
-            Item::Band(band) => once(&mut header.band, band, Keyword::Band)?,
-            Item::Bid(price) => once(&mut header.bid, price, Keyword::Bid)?,
-            Item::Ask(price) => once(&mut header.ask, price, Keyword::Ask)?,
-            Item::Committee(price) => once(&mut header.committee, price, Keyword::Committee)?,
-            Item::Trade(trade) => return Ok((header, Some(trade))),
+            Item::Last(second) => once(&mut self.last, second, Keyword::Last)?,
+            Item::Band(band) => once(&mut self.band, band, Keyword::Band)?,
+            Item::Bid(price) => once(&mut self.bid, price, Keyword::Bid)?,
+            Item::Ask(price) => once(&mut self.ask, price, Keyword::Ask)?,
+            Item::Committee(price) => once(&mut self.committee, price, Keyword::Committee)?,
+            Item::Trade(trade) => return Ok(Some(trade)),
         }
-        Ok((header, None))
+        Ok(None)
     }
 
-    /// What one line adds: to the header, or a trade.
-    pub(crate) fn with_line(self, line: &[u8]) -> Result<(Header, Option<Trade>), Trouble>
-        ensures { result ≡ line_of self line.now }
+    /// Notes what one line says: in the header, or it is a trade.
+    pub(crate) fn note_line(&mut self, line: &[u8]) -> Result<Option<Trade>, Trouble>
+        ensures { beside self.new result ≡ line_of self.old line.now }
     {
         match Item::of(line)? {
-            Some(item) => self.with(item),
-            None => Ok((self, None)),
+            Some(item) => self.note(item),
+            None => Ok(None),
         }
     }
 }
