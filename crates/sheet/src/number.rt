@@ -1,5 +1,5 @@
 //! A number in a column: to the right, with spaces before it.
-ghost use Rattle.std.specs.Prelude.{◌≡◌, length, is_ok, codes, Some};
+ghost use Rattle.std.specs.Prelude.{◌≡◌, length, is_ok, codes, replicate, Some};
 ghost use Rattle.sheet.specs.Numbers.{glyph, column_of, fits, digit_of, number_of, word_of, Reads};
 
 use std::error::Error;
@@ -30,10 +30,10 @@ fn glyph_at(left: u64, last: bool) -> u8
     }
 }
 
-/// Writes a number into a column of any width. If it does not fit, the column has its last digits.
-#[tactic(auto, using(crate::proofs::Fills::filled_none, crate::proofs::Fills::left_none))]
-pub fn write_number(column: &mut [u8], number: u64) -> Result<(), TooNarrow>
-    ensures shown { column.new ≡ column_of (length column.old) number }
+/// Writes a number over a column of spaces. If it does not fit, the column has its last digits.
+// Apart from `write_number`, since a row begins with spaces, and what they leave to do is a turn a digit and not one a place.
+pub(crate) fn write_digits(column: &mut [u8], number: u64) -> Result<(), TooNarrow>
+    ensures shown { column.old ≡ replicate (length column.old) 32 → column.new ≡ column_of (length column.old) number }
     ensures whole { is_ok result ≡ fits (length column.old) number }
 {
     let width = column.len();
@@ -42,8 +42,20 @@ pub fn write_number(column: &mut [u8], number: u64) -> Result<(), TooNarrow>
     for at in (0..width).rev() {
         column[at] = glyph_at(left, at + 1 == width);
         left /= 10;
+        if left == 0 {
+            return Ok(());
+        }
     }
     if left == 0 { Ok(()) } else { Err(TooNarrow) }
+}
+
+/// Writes a number into a column of any width. If it does not fit, the column has its last digits.
+pub fn write_number(column: &mut [u8], number: u64) -> Result<(), TooNarrow>
+    ensures shown { column.new ≡ column_of (length column.old) number }
+    ensures whole { is_ok result ≡ fits (length column.old) number }
+{
+    column.fill(b' ');
+    write_digits(column, number)
 }
 
 /// The value of a digit.

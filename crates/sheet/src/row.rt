@@ -3,29 +3,27 @@ ghost use Rattle.std.specs.Prelude.{◌≡◌, ℕ, ◌≤◌, length, is_ok, su
 ghost use Rattle.std.specs.List.{list_all};
 ghost use Rattle.sheet.specs.Rows.{entry_of, entry_fits, row_of, row_written};
 
-use crate::number::{TooNarrow, write_number};
+use crate::number::{TooNarrow, write_digits};
 
-/// Writes a field: its number, or spaces if it has none.
+/// Writes a field of spaces: its number, or nothing more if it has none.
 fn write_entry(field: &mut [u8], entry: Option<u64>) -> Result<(), TooNarrow>
-    ensures shown { field.new ≡ entry_of (length field.old) entry }
+    ensures shown { field.old ≡ replicate (length field.old) 32 → field.new ≡ entry_of (length field.old) entry }
     ensures whole { is_ok result ≡ entry_fits (length field.old) entry }
 {
     match entry {
-        Some(number) => write_number(field, number),
-        None => {
-            field.fill(b' ');
-            Ok(())
-        }
+        Some(number) => write_digits(field, number),
+        None => Ok(()),
     }
 }
 
-/// Writes columns one after another, from the start of a row of newlines.
+/// Writes columns one after another over a row of spaces, and newlines after them.
 fn write_columns(bytes: &mut [u8], columns: &[(usize, Option<u64>)]) -> Result<(), TooNarrow>
     requires { sum_by (λ (c : ℕ × Option ℕ). c.0) columns.now ≤ length bytes.old }
-    ensures shown { bytes.old ≡ replicate (length bytes.old) 10 → IfOk result (λ _. bytes.new ≡ row_of (length bytes.old) columns.now) }
+    ensures shown { bytes.old ≡ replicate (length bytes.old) 32 → IfOk result (λ _. bytes.new ≡ row_of (length bytes.old) columns.now) }
     ensures whole { is_ok result ≡ list_all (λ (c : ℕ × Option ℕ). entry_fits c.0 c.1) columns.now }
 {
     let [(width, entry), later @ ..] = columns else {
+        bytes.fill(b'\n');
         return Ok(());
     };
     let (field, rest) = bytes.split_at_mut(*width);
@@ -39,7 +37,7 @@ pub(crate) fn row<const N: usize>(columns: &[(usize, Option<u64>)]) -> Result<[u
     requires { sum_by (λ (c : ℕ × Option ℕ). c.0) columns.now ≤ N }
     ensures { result ≡ row_written N columns.now }
 {
-    let mut row = [b'\n'; N];
+    let mut row = [b' '; N];
     write_columns(&mut row, columns)?;
     Ok(row)
 }
