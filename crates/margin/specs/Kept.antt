@@ -17,8 +17,11 @@ pub record InRanges (series size price count : ℕ) : Type 0 where
 pub ranges_of : (series size price count : ℕ) → askable series size price count ≡ true → InRanges series size price count
 ranges_of series size price count e = grind (arith, common_steps)
 
-value_high : {series size price count : ℕ} → InRanges series size price count → price * size * count ≤ most
+pub value_high : {series size price count : ℕ} → InRanges series size price count → price * size * count ≤ most
 value_high q = mul-le-mul (mul-le-mul q.price_high q.size_high) q.count_high
+
+pub extra_high : {extra series size price count : ℕ} → extra ≤ 1000000000000 → InRanges series size price count → extra * count ≤ most
+extra_high h q = mul-le-mul h q.count_high
 
 -- ---- answers that are cut to the questions in range
 
@@ -41,7 +44,7 @@ module _ (each : ℕ → ℕ × ℕ) where
   pub flat_lawful : ((series : ℕ) → (each series).0 ≤ 1000000000000) → ((series : ℕ) → (each series).1 ≤ (each series).0) → Lawful (flat_rule each)
   flat_lawful bounded ordered =
       cut_lawful _
-      (λ series size price count q. grind (arith, bounded, ordered, mul-le-mul, mul-le-mul_right))
+      (λ series size price count q. grind (arith, bounded, ordered, extra_high, mul-le-mul_right))
       (λ series size price. simp mul-zero)
 
   pub flat_grows : Grows (flat_rule each)
@@ -50,7 +53,7 @@ module _ (each : ℕ → ℕ × ℕ) where
 -- ---- share
 
 -- a portion of an amount is not above it, and does not fall as that grows
-portion_below : (amount parts : ℕ) → parts ≤ 10000 → portion amount parts ≤ amount
+pub portion_below : (amount parts : ℕ) → parts ≤ 10000 → portion amount parts ≤ amount
 portion_below amount parts h = grind (arith, mul-le-mul_left)
 
 portion_grows : (less more parts : ℕ) → less ≤ more → portion less parts ≤ portion more parts
