@@ -1,6 +1,6 @@
 -- A column that is filled from its end.
 use native.Mathlib.Nat.{div-eq_of_lt, pow-le-pow_right}
-use Rattle.std.proofs.Common.{◌≡◌, ℕ, zero, suc, ◌+◌, ◌-◌, ◌/◌, ◌^◌, ◌<◌, ◌≤◌, true, eqb, List, ◌∷◌, ◌++◌, length, take, drop, set, replicate, sym, ap, ◌∙◌, div-one, arith}
+use Rattle.std.proofs.Common.{◌≡◌, ℕ, zero, suc, ◌+◌, ◌-◌, ◌/◌, ◌^◌, ◌<◌, ◌≤◌, true, eqb, List, ◌∷◌, ◌++◌, length, take, drop, set, replicate, sym, refl, ap, ◌∙◌, div-one, arith}
 use Rattle.std.proofs.lemmas.List.{drop_all, drop-set, take-append-drop, take-take, take-replicate, drop-replicate, length-replicate}
 use Rattle.std.proofs.lemmas.Bool.{lt-ltb}
 use Rattle.sheet.specs.Numbers.{glyph, column_of, fits}
@@ -73,9 +73,9 @@ left_none n width left h1 h2 = grind (arith, lt-ltb, quotient_none)
 pub left_early : (n width at left : ℕ) → left ≡ n / 10 ^ (width - at) → left ≡ 0 → true ≡ fits width n
 left_early n width at left h1 h2 =
     let k = width - at in
-    let short : n < 10 ^ k = quotient_none k n (sym h1 ∙ h2) in
-    let wide : 10 ^ k ≤ 10 ^ width = pow-le-pow_right (omega arith) (omega arith) in
-    sym (lt-ltb n (10 ^ width) (omega arith))
+    let none = none_before (width - k) k n (sym h1 ∙ h2) in
+    let whole : width - k + k ≡ width = omega arith in
+    left_none n width 0 (sym none ∙ ap (λ w. n / 10 ^ w) whole) refl
 
 -- a column of spaces, cut off a row of them, and what is left of that
 pub spaces_front : (w : ℕ) (xs ys : List ℕ) → xs ≡ replicate (length xs) 32 → ys ≡ take w xs → w ≤ length xs → ys ≡ replicate (length ys) 32

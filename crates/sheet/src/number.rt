@@ -31,7 +31,7 @@ fn glyph_at(left: u64, last: bool) -> u8
 }
 
 /// Writes a number over a column of spaces. If it does not fit, the column has its last digits.
-// Apart from `write_number`, since a row begins with spaces, and what they leave to do is a turn a digit and not one a place.
+// Apart from `write_number`, for a row, which is spaces already: a turn a digit is left to do, and not one a place.
 pub(crate) fn write_digits(column: &mut [u8], number: u64) -> Result<(), TooNarrow>
     ensures shown { column.old ≡ replicate (length column.old) 32 → column.new ≡ column_of (length column.old) number }
     ensures whole { is_ok result ≡ fits (length column.old) number }
